@@ -1,0 +1,6 @@
+pub mod Order
+pub mod Held
+pub mod InOrder
+pub mod Answers
+pub mod Sifting
+pub mod Heaps
