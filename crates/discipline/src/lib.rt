@@ -15,6 +15,7 @@ mod jobs_calls;
 mod row;
 mod row_calls;
 
+pub use fcfs::Fcfs;
 pub use fcfs_calls::FcfsDiscipline;
 use refusal::Refusal;
 

@@ -5,12 +5,11 @@ ghost use lib.ListN.{getD};
 ghost use Rattle.std.specs.Results.{Cases};
 ghost use Rattle.std.specs.Vec.{made};
 ghost use Rattle.std.specs.declared.result.Result.the-variants.{Ok};
-ghost use Rattle.refusal.specs.Answers.{KeptIfRefused};
 ghost use Rattle.discipline.specs.Meaning.{cleared, admitted, worked};
 ghost use Rattle.run.specs.States.{Tied};
 ghost use Rattle.run.specs.Steps.{Enters, Takes, Dones, Backs, Passes, enterRule, doneRule, madeWith};
 ghost use Rattle.run.specs.Laws.{Always-lawful};
-ghost use Rattle.run.specs.Runs.{meaning, disciplineOf, Moves};
+ghost use Rattle.run.specs.Runs.{meaning, disciplineOf, StaysTied, Untouched, UntouchedIfRefused, Moves};
 use crate::accounts::Accounts;
 use crate::accounts::Call;
 use crate::accounts::LeaseState;
@@ -62,9 +61,9 @@ impl<D: Discipline> Run<D> {
     pub fn enter(&mut self, name: &[u8], size: u32) -> Result<u32, Refusal>
         ensures does { λ r. ⌜ Enters (meaning D·Discipline (now (self .entry))) (now (name .entry)) size r (meaning D·Discipline (now (self .exit))) ⌝ }
         ensures rules { λ r. ⌜ (Tied (meaning D·Discipline (now (self .entry))) → r ≡ enterRule (meaning D·Discipline (now (self .entry))) (now (name .entry)) size) ⌝ }
-        ensures ties { λ _. ⌜ (Tied (meaning D·Discipline (now (self .entry))) → Tied (meaning D·Discipline (now (self .exit)))) ⌝ }
+        ensures ties { λ _. ⌜ StaysTied D·Discipline (now (self .entry)) (now (self .exit)) ⌝ }
         ensures moves { λ r. ⌜ made r (λ k. Moves D·Discipline (admitted k size) (now (self .entry)) (now (self .exit))) ⌝ }
-        ensures stays { λ r. ⌜ (Tied (meaning D·Discipline (now (self .entry))) → KeptIfRefused r (disciplineOf (now (self .entry))) (disciplineOf (now (self .exit)))) ⌝ }
+        ensures stays { λ r. ⌜ UntouchedIfRefused D·Discipline (now (self .entry)) r (now (self .exit)) ⌝ }
     {
         if !is_size(size) {
             return Err(Refusal::Size);
@@ -87,8 +86,8 @@ impl<D: Discipline> Run<D> {
     pub fn take(&mut self) -> Result<Lease, Refusal>
         ensures does { λ r. ⌜ Takes (meaning D·Discipline (now (self .entry))) r (meaning D·Discipline (now (self .exit))) ⌝ }
         ensures ours { λ r. ⌜ made r (λ lease. doneRule (meaning D·Discipline (now (self .exit))) lease ≡ Ok tt) ⌝ }
-        ensures ties { λ _. ⌜ (Tied (meaning D·Discipline (now (self .entry))) → Tied (meaning D·Discipline (now (self .exit)))) ⌝ }
-        ensures stays { λ _. ⌜ disciplineOf (now (self .exit)) ≡ disciplineOf (now (self .entry)) ⌝ }
+        ensures ties { λ _. ⌜ StaysTied D·Discipline (now (self .entry)) (now (self .exit)) ⌝ }
+        ensures stays { λ _. ⌜ Untouched (now (self .entry)) (now (self .exit)) ⌝ }
     {
         self.accounts.may(Call::Take)?;
         let Ok(job) = self.discipline.choose() else {
@@ -108,9 +107,9 @@ impl<D: Discipline> Run<D> {
         ensures does { λ r. ⌜ Dones (meaning D·Discipline (now (self .entry))) lease r (meaning D·Discipline (now (self .exit))) ⌝ }
         ensures rules { λ r. ⌜ (Tied (meaning D·Discipline (now (self .entry))) → r ≡ doneRule (meaning D·Discipline (now (self .entry))) lease) ⌝ }
         ensures unspent { λ r. ⌜ Cases r (λ _. Unit {0}) (λ refused. refused .1 ≡ lease) ⌝ }
-        ensures ties { λ _. ⌜ (Tied (meaning D·Discipline (now (self .entry))) → Tied (meaning D·Discipline (now (self .exit)))) ⌝ }
+        ensures ties { λ _. ⌜ StaysTied D·Discipline (now (self .entry)) (now (self .exit)) ⌝ }
         ensures moves { λ r. ⌜ made r (λ _. Moves D·Discipline (worked (lease .job) (getD (meaning D·Discipline (now (self .entry)) .present) (lease .job) 0 - 1)) (now (self .entry)) (now (self .exit))) ⌝ }
-        ensures stays { λ r. ⌜ (Tied (meaning D·Discipline (now (self .entry))) → KeptIfRefused r (disciplineOf (now (self .entry))) (disciplineOf (now (self .exit)))) ⌝ }
+        ensures stays { λ r. ⌜ UntouchedIfRefused D·Discipline (now (self .entry)) r (now (self .exit)) ⌝ }
     {
         if let Err(cause) = self.accounts.may(lease.call()) {
             return Err((cause, lease));
@@ -129,8 +128,8 @@ impl<D: Discipline> Run<D> {
     pub fn back(&mut self, lease: Lease) -> Result<(), (Refusal, Lease)>
         ensures does { λ r. ⌜ Backs (meaning D·Discipline (now (self .entry))) lease r (meaning D·Discipline (now (self .exit))) ⌝ }
         ensures unspent { λ r. ⌜ Cases r (λ _. Unit {0}) (λ refused. refused .1 ≡ lease) ⌝ }
-        ensures ties { λ _. ⌜ (Tied (meaning D·Discipline (now (self .entry))) → Tied (meaning D·Discipline (now (self .exit)))) ⌝ }
-        ensures stays { λ _. ⌜ disciplineOf (now (self .exit)) ≡ disciplineOf (now (self .entry)) ⌝ }
+        ensures ties { λ _. ⌜ StaysTied D·Discipline (now (self .entry)) (now (self .exit)) ⌝ }
+        ensures stays { λ _. ⌜ Untouched (now (self .entry)) (now (self .exit)) ⌝ }
     {
         if let Err(cause) = self.accounts.may(lease.call()) {
             return Err((cause, lease));
@@ -145,8 +144,8 @@ impl<D: Discipline> Run<D> {
     // somebody present.
     pub fn pass(&mut self) -> Result<(), Refusal>
         ensures does { λ r. ⌜ Passes (meaning D·Discipline (now (self .entry))) r (meaning D·Discipline (now (self .exit))) ⌝ }
-        ensures ties { λ _. ⌜ (Tied (meaning D·Discipline (now (self .entry))) → Tied (meaning D·Discipline (now (self .exit)))) ⌝ }
-        ensures stays { λ _. ⌜ disciplineOf (now (self .exit)) ≡ disciplineOf (now (self .entry)) ⌝ }
+        ensures ties { λ _. ⌜ StaysTied D·Discipline (now (self .entry)) (now (self .exit)) ⌝ }
+        ensures stays { λ _. ⌜ Untouched (now (self .entry)) (now (self .exit)) ⌝ }
     {
         self.accounts.may(Call::Pass)?;
         let present = self.discipline.count();

@@ -9,3 +9,7 @@ pub mod run;
 #[cfg(test)]
 mod tests;
 mod ticks;
+
+pub use lease::Lease;
+pub use line::Line;
+pub use run::Run;

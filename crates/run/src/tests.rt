@@ -1,7 +1,7 @@
 // Examples at the edge of the rules: sizes, names, and entering while a lease is out.
 use crate::run::Run;
+use discipline::Fcfs;
 use discipline::FcfsDiscipline;
-use discipline::fcfs::Fcfs;
 use refusal::Refusal;
 use refusal::RefusalDebug;
 use refusal::RefusalPartialEq;

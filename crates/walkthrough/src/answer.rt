@@ -2,7 +2,7 @@
 use discipline::Discipline;
 use refusal::Refusal;
 use refusal::RefusalDisplay;
-use run::run::Run;
+use run::Run;
 use std::fmt;
 
 // A job's number, plain acceptance, or a refusal.

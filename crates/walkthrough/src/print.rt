@@ -1,6 +1,5 @@
 // Actions on a run, each printed on a line with its answer and the figures after it.
-ghost use Rattle.run.specs.States.{Tied};
-ghost use Rattle.run.specs.Runs.{meaning};
+ghost use Rattle.run.specs.Runs.{StaysTied};
 use crate::answer::Answer;
 use crate::answer::AnswerDisplay;
 use crate::answer::Figures;
@@ -8,7 +7,7 @@ use crate::answer::FiguresDisplay;
 use crate::ticks::Ticked;
 use discipline::Discipline;
 use refusal::Refusal;
-use run::run::Run;
+use run::Run;
 use std::io;
 
 // A job tries to enter.
@@ -18,7 +17,7 @@ pub fn enter<D: Discipline>(
     name: &str,
     size: u32,
 ) -> io::Result<()>
-    ensures { λ _. ⌜ (Tied (meaning D·Discipline (now (run .entry))) → Tied (meaning D·Discipline (now (run .exit)))) ⌝ }
+    ensures { λ _. ⌜ StaysTied D·Discipline (now (run .entry)) (now (run .exit)) ⌝ }
 {
     let answer = Answer::job(run.enter(name.as_bytes(), size));
     let after = Figures::of(run);
@@ -27,7 +26,7 @@ pub fn enter<D: Discipline>(
 
 // The run is asked for an empty tick.
 pub fn pass<D: Discipline>(rt: &LibcRuntime, run: &mut Run<D>) -> io::Result<()>
-    ensures { λ _. ⌜ (Tied (meaning D·Discipline (now (run .entry))) → Tied (meaning D·Discipline (now (run .exit)))) ⌝ }
+    ensures { λ _. ⌜ StaysTied D·Discipline (now (run .entry)) (now (run .exit)) ⌝ }
 {
     let answer = Answer::plain(run.pass());
     let after = Figures::of(run);

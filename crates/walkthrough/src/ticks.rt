@@ -6,7 +6,7 @@ use crate::answer::Answer;
 use crate::answer::Figures;
 use discipline::Discipline;
 use refusal::Refusal;
-use run::run::Run;
+use run::Run;
 
 // What was answered in a tick, and the figures after each answer: the lease, a job that tried to
 // enter while the lease was out, and the end.
