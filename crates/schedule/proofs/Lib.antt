@@ -1,0 +1,9 @@
+pub mod Outside
+pub mod Remaining
+pub mod Following
+pub mod Counting
+pub mod Fewest
+pub mod Occupancy
+pub mod Work
+pub mod Sojourn
+pub mod Computed
