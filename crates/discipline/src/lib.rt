@@ -1,4 +1,6 @@
 // The order in which one server takes the jobs that are present.
+#![tactic(auto)]
+
 ghost use Rattle.std.specs.Prelude.{◌≡◌, ℕ, ◌-◌, List, replicate, IfOk, Option, OnOk, slice_index, slice_set};
 ghost use Rattle.refusal.specs.Answers.{if_accepted, KeptIfRefused};
 ghost use Rattle.discipline.specs.Meaning.{Move, cleared, admitted, worked as served, Sound, admit_answer, choose_answer, worked_answer, left_answer, count_present};

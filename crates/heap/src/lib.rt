@@ -1,4 +1,6 @@
 // An indexed heap over lent memory: the first key is at hand, and every key is found by its handle.
+#![tactic(auto)]
+
 pub mod indexed;
 mod insert;
 pub mod key;

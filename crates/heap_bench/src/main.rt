@@ -1,4 +1,6 @@
 // A fixed load of inserts, replaces and removes over 1,024 keys; prints what came out, and no time.
+#![tactic(auto)]
+
 mod load;
 mod ranking;
 mod ranking_calls;

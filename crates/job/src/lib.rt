@@ -1,4 +1,6 @@
 // What a job may be: the rule of sizes, the rule of names, and a name as it is kept.
+#![tactic(auto)]
+
 ghost use Rattle.std.specs.Prelude.{◌≡◌};
 ghost use Rattle.job.specs.Rules.{good_size};
 

@@ -1,4 +1,6 @@
 // The two kinds of key that are in use, each shown to keep the order law: by left work, and by name.
+#![tactic(auto)]
+
 pub mod left;
 pub mod named;
 

@@ -1,4 +1,6 @@
 // In which order the disciplines that keep a row serve, as laws over whole runs: each function's contract is a theorem, and its body computes nothing.
+#![tactic(auto)]
+
 ghost use Rattle.order.specs.Laws.{FcfsInOrder, LcfsServesLatest};
 ghost use Rattle.order.specs.Turns.{FullTurnGoesBehind};
 

@@ -1,4 +1,6 @@
 // First come first served, last come first served and round robin, over one row that is held as a ring.
+#![tactic(auto)]
+
 pub mod fcfs;
 mod fcfs_calls;
 mod jobs;

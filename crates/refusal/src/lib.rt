@@ -1,4 +1,6 @@
 // Why a call is refused: every cause, its number, and its text for people.
+#![tactic(auto)]
+
 ghost use Rattle.std.specs.Prelude.{◌≡◌, Some};
 ghost use Rattle.refusal.specs.Causes.{number_of, text_of, ToldApart};
 

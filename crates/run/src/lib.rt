@@ -1,4 +1,6 @@
 // A run: jobs enter, a lease gives the right to end one tick, and a book keeps each job's line.
+#![tactic(auto)]
+
 pub mod accounts;
 pub mod book;
 mod calls;

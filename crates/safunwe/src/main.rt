@@ -1,4 +1,6 @@
 // The console program: prints the lines of the trace on standard input and their numbers, or why it is refused.
+#![tactic(auto)]
+
 use std::io;
 use std::io::{BufWriter, Read, Write};
 use trace::line::{LineTokens, line_at};

@@ -1,4 +1,6 @@
 // The theory of schedules, as laws: each function's contract is a theorem over histories and schedules, and its body computes nothing.
+#![tactic(auto)]
+
 ghost use Rattle.schedule.specs.Schedules.{LegalWithin};
 ghost use Rattle.schedule.specs.Occupancy.{OccupancyIdentity};
 ghost use Rattle.schedule.specs.Work.{WorkBalance, WorkConserved};

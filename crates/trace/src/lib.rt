@@ -1,4 +1,6 @@
 // The trace reader: tokens, lines, whole traces, and how a trace is refused.
+#![tactic(auto)]
+
 pub mod line;
 pub mod refused;
 #[cfg(test)]

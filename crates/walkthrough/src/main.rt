@@ -1,4 +1,6 @@
 // Takes jobs through runs under first come, first served, and prints every action with what it leaves.
+#![tactic(auto)]
+
 mod answer;
 mod print;
 mod ticks;
