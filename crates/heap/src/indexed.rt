@@ -21,8 +21,8 @@ pub struct IndexedHeap<'a, K: Key> {
 impl<'a, K: Key> IndexedHeap<'a, K> {
     // An empty heap over lent memory, whatever the memory holds. It writes nothing.
     pub fn new(keys: &'a mut [K], places: &'a mut [u16]) -> IndexedHeap<'a, K>
-        ensures order { Sound handle_of before result }
-        ensures holds { SameKeys (held_in handle_of result) nothing }
+        ensures order { Sound K.handle_of K.before result }
+        ensures holds { SameKeys (held_in K.handle_of result) nothing }
         ensures same { (result.keys.now ≡ keys.old) × (result.places.now ≡ places.old) × (result.len ≡ 0) }
         ensures lender { (result.keys.ghost_name ≡ keys.entry.ghost_name) × (result.places.ghost_name ≡ places.entry.ghost_name) }
     {
@@ -35,7 +35,7 @@ impl<'a, K: Key> IndexedHeap<'a, K> {
 
     // The heap that an owner keeps: its memory and how many keys it holds, lent for some calls. The owner's type says that they are in order.
     pub fn over(keys: &'a mut [K], places: &'a mut [u16], len: usize) -> IndexedHeap<'a, K>
-        requires { InOrder handle_of before keys.old places.old len }
+        requires { InOrder K.handle_of K.before keys.old places.old len }
         ensures same { (result.keys.now ≡ keys.old) × (result.places.now ≡ places.old) × (result.len ≡ len) }
         ensures lender { (result.keys.ghost_name ≡ keys.entry.ghost_name) × (result.places.ghost_name ≡ places.entry.ghost_name) }
     {
@@ -44,8 +44,8 @@ impl<'a, K: Key> IndexedHeap<'a, K> {
 
     // Lets every key go. Never refused; one step.
     pub fn clear(&mut self)
-        ensures order { Sound handle_of before self.new }
-        ensures holds { SameKeys (held_in handle_of self.new) nothing }
+        ensures order { Sound K.handle_of K.before self.new }
+        ensures holds { SameKeys (held_in K.handle_of self.new) nothing }
         ensures len { self.new.len ≡ 0 }
         ensures lender { SameMemory self.old self.new }
     {
@@ -61,33 +61,33 @@ impl<'a, K: Key> IndexedHeap<'a, K> {
 
     // How many keys are held. One step.
     pub fn count(&self) -> usize
-        requires { Sound handle_of before self.now }
+        requires { Sound K.handle_of K.before self.now }
         ensures len { result ≡ self.now.len }
-        ensures counts { result ≡ counted (held_in handle_of self.now) 1024 }
+        ensures counts { result ≡ counted (held_in K.handle_of self.now) 1024 }
     {
         count_of(self.keys, self.len)
     }
 
     // The handle of the key that comes before all others; refused with 6 where nothing is held. One step.
     pub fn first(&self) -> Result<u32, Refusal>
-        requires { Sound handle_of before self.now }
-        ensures { First handle_of before (held_in handle_of self.now) result }
+        requires { Sound K.handle_of K.before self.now }
+        ensures { First K.handle_of K.before (held_in K.handle_of self.now) result }
     {
         first_of(self.keys, self.len)
     }
 
     // The key with a handle, if it is held. One step.
     pub fn get(&self, handle: u32) -> Option<K>
-        requires { Sound handle_of before self.now }
-        ensures { result ≡ held_in handle_of self.now handle }
+        requires { Sound K.handle_of K.before self.now }
+        ensures { result ≡ held_in K.handle_of self.now handle }
     {
         key_of(self.keys, self.places, self.len, handle)
     }
 
     // Where the key with a handle is. One step.
     pub(crate) fn seat(&self, handle: u32) -> Seat
-        requires { Sound handle_of before self.now }
-        ensures { Seated handle_of self.now.keys.now self.now.places.now self.now.len handle result }
+        requires { Sound K.handle_of K.before self.now }
+        ensures { Seated K.handle_of self.now.keys.now self.now.places.now self.now.len handle result }
     {
         seat_of(self.keys, self.places, self.len, handle)
     }

@@ -13,10 +13,10 @@ use refusal::Refusal;
 impl<'a, K: Key> IndexedHeap<'a, K> {
     // Adds a key; refused with 9 unless its handle is below the capacity, then with 10 if its handle is held. O(log n).
     pub fn insert(&mut self, key: K) -> Result<(), Refusal>
-        requires { Sound handle_of before self.old }
-        ensures order { Sound handle_of before self.new }
-        ensures answers { answer result ≡ insert_in handle_of self.old (handle_of key) }
-        ensures holds { MatchResult result (λ _. SameKeys (held_in handle_of self.new) (put handle_of key (held_in handle_of self.old))) (λ _. Unchanged self.old self.new) }
+        requires { Sound K.handle_of K.before self.old }
+        ensures order { Sound K.handle_of K.before self.new }
+        ensures answers { answer result ≡ insert_in K.handle_of self.old (K.handle_of key) }
+        ensures holds { MatchResult result (λ _. SameKeys (held_in K.handle_of self.new) (put K.handle_of key (held_in K.handle_of self.old))) (λ _. Unchanged self.old self.new) }
         ensures len { MatchResult result (λ _. self.new.len ≡ self.old.len + 1) (λ _. self.new.len ≡ self.old.len) }
         ensures lender { SameMemory self.old self.new }
     {

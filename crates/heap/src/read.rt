@@ -30,8 +30,8 @@ pub(crate) fn capacity_of(keys: usize, places: usize) -> usize
 // The seat of a handle among the first n keys. A told place is believed only where the key there has the handle,
 // so that places of handles that are not held may hold anything, and a new heap writes none.
 pub(crate) fn seat_of<K: Key>(keys: &[K], places: &[u16], n: usize, handle: u32) -> Seat
-    requires { InOrder handle_of before keys.now places.now n }
-    ensures { Seated handle_of keys.now places.now n handle result }
+    requires { InOrder K.handle_of K.before keys.now places.now n }
+    ensures { Seated K.handle_of keys.now places.now n handle result }
 {
     let handle = handle as usize;
     if handle >= capacity_of(keys.len(), places.len()) {
@@ -47,16 +47,16 @@ pub(crate) fn seat_of<K: Key>(keys: &[K], places: &[u16], n: usize, handle: u32)
 // The key at the place that a handle's key has.
 fn held_key<K: Key>(keys: &[K], n: usize, at: usize, handle: u32) -> K
     requires bound { (at < n) × (n ≤ length keys.now) }
-    requires there { (d : K) → held handle_of keys.now n handle ≡ Some (slice_index_or keys.now at d) }
-    ensures { held handle_of keys.now n handle ≡ Some result }
+    requires there { (d : K) → held K.handle_of keys.now n handle ≡ Some (slice_index_or keys.now at d) }
+    ensures { held K.handle_of keys.now n handle ≡ Some result }
 {
     keys[at]
 }
 
 // The handle of the key that comes before all others of a heap in order; refused with 6 where there is none. One step.
 pub fn first_of<K: Key>(keys: &[K], n: usize) -> Result<u32, Refusal>
-    requires { (places : List ℕ) × InOrder handle_of before keys.now places n }
-    ensures { First handle_of before (held handle_of keys.now n) result }
+    requires { (places : List ℕ) × InOrder K.handle_of K.before keys.now places n }
+    ensures { First K.handle_of K.before (held K.handle_of keys.now n) result }
 {
     if n == 0 {
         return Err(Refusal::Nobody);
@@ -67,8 +67,8 @@ pub fn first_of<K: Key>(keys: &[K], n: usize) -> Result<u32, Refusal>
 
 // The key with a handle in a heap in order, if there is one. One step.
 pub fn key_of<K: Key>(keys: &[K], places: &[u16], n: usize, handle: u32) -> Option<K>
-    requires { InOrder handle_of before keys.now places.now n }
-    ensures { result ≡ held handle_of keys.now n handle }
+    requires { InOrder K.handle_of K.before keys.now places.now n }
+    ensures { result ≡ held K.handle_of keys.now n handle }
 {
     match seat_of(keys, places, n, handle) {
         Seat::Taken(at) => Some(held_key(keys, n, at, handle)),
@@ -78,15 +78,15 @@ pub fn key_of<K: Key>(keys: &[K], places: &[u16], n: usize, handle: u32) -> Opti
 
 // A heap in order holds as many keys as it keeps: this is why a count need not be counted.
 fn keeps_count<K: Key>(keys: &[K], n: usize)
-    requires { (places : List ℕ) × InOrder handle_of before keys.now places n }
-    ensures { counted (held handle_of keys.now n) 1024 ≡ n }
+    requires { (places : List ℕ) × InOrder K.handle_of K.before keys.now places n }
+    ensures { counted (held K.handle_of keys.now n) 1024 ≡ n }
 {}
 
 // How many keys a heap in order holds. One step.
 pub fn count_of<K: Key>(keys: &[K], n: usize) -> usize
-    requires { (places : List ℕ) × InOrder handle_of before keys.now places n }
+    requires { (places : List ℕ) × InOrder K.handle_of K.before keys.now places n }
     ensures len { result ≡ n }
-    ensures counts { result ≡ counted (held handle_of keys.now n) 1024 }
+    ensures counts { result ≡ counted (held K.handle_of keys.now n) 1024 }
 {
     keeps_count(keys, n);
     n

@@ -14,10 +14,10 @@ use refusal::Refusal;
 impl<'a, K: Key> IndexedHeap<'a, K> {
     // Takes out the key with a handle; refused with 9 unless the handle is below the capacity, then with 11 if it is not held. O(log n).
     pub fn remove(&mut self, handle: u32) -> Result<(), Refusal>
-        requires { Sound handle_of before self.old }
-        ensures order { Sound handle_of before self.new }
-        ensures answers { answer result ≡ change_in handle_of self.old handle }
-        ensures holds { MatchResult result (λ _. SameKeys (held_in handle_of self.new) (without handle (held_in handle_of self.old))) (λ _. Unchanged self.old self.new) }
+        requires { Sound K.handle_of K.before self.old }
+        ensures order { Sound K.handle_of K.before self.new }
+        ensures answers { answer result ≡ change_in K.handle_of self.old handle }
+        ensures holds { MatchResult result (λ _. SameKeys (held_in K.handle_of self.new) (without handle (held_in K.handle_of self.old))) (λ _. Unchanged self.old self.new) }
         ensures len { MatchResult result (λ _. self.new.len + 1 ≡ self.old.len) (λ _. self.new.len ≡ self.old.len) }
         ensures lender { SameMemory self.old self.new }
     {
@@ -35,10 +35,10 @@ impl<'a, K: Key> IndexedHeap<'a, K> {
 
     // Of n keys in order, moves the last, which the count leaves out already, to the place of the one that goes.
     fn close_gap(&mut self, n: usize, at: usize)
-        requires order { InOrder handle_of before self.old.keys.now self.old.places.now n }
+        requires order { InOrder K.handle_of K.before self.old.keys.now self.old.places.now n }
         requires gap { (self.old.len + 1 ≡ n) × (at < n) }
-        ensures order { Sound handle_of before self.new }
-        ensures holds { (x : ℕ) → ((d : K) → handle_of (slice_index_or self.old.keys.now at d) ≡ x) → SameKeys (held_in handle_of self.new) (without x (held handle_of self.old.keys.now n)) }
+        ensures order { Sound K.handle_of K.before self.new }
+        ensures holds { (x : ℕ) → ((d : K) → K.handle_of (slice_index_or self.old.keys.now at d) ≡ x) → SameKeys (held_in K.handle_of self.new) (without x (held K.handle_of self.old.keys.now n)) }
         ensures len { self.new.len + 1 ≡ n }
         ensures lender { SameMemory self.old self.new }
     {

@@ -13,10 +13,10 @@ use refusal::Refusal;
 impl<'a, K: Key> IndexedHeap<'a, K> {
     // Puts a key in the place of the one with its handle; refused with 9 unless the handle is below the capacity, then with 11 if it is not held. O(log n).
     pub fn replace(&mut self, key: K) -> Result<(), Refusal>
-        requires { Sound handle_of before self.old }
-        ensures order { Sound handle_of before self.new }
-        ensures answers { answer result ≡ change_in handle_of self.old (handle_of key) }
-        ensures holds { MatchResult result (λ _. SameKeys (held_in handle_of self.new) (put handle_of key (held_in handle_of self.old))) (λ _. Unchanged self.old self.new) }
+        requires { Sound K.handle_of K.before self.old }
+        ensures order { Sound K.handle_of K.before self.new }
+        ensures answers { answer result ≡ change_in K.handle_of self.old (K.handle_of key) }
+        ensures holds { MatchResult result (λ _. SameKeys (held_in K.handle_of self.new) (put K.handle_of key (held_in K.handle_of self.old))) (λ _. Unchanged self.old self.new) }
         ensures len { self.new.len ≡ self.old.len }
         ensures lender { SameMemory self.old self.new }
     {

@@ -12,10 +12,10 @@ use crate::slots::{before_parent, handle_at, next_down, tell};
 impl<'a, K: Key> IndexedHeap<'a, K> {
     // Moves the key at `at`, whose place is not told, to where it belongs, and tells its place. O(log n).
     pub(crate) fn settle(&mut self, at: usize)
-        requires { Moving handle_of before self.old at }
-        ensures order { Sound handle_of before self.new }
+        requires { Moving K.handle_of K.before self.old at }
+        ensures order { Sound K.handle_of K.before self.new }
         ensures len { self.new.len ≡ self.old.len }
-        ensures holds { SameKeys (held_in handle_of self.new) (held_in handle_of self.old) }
+        ensures holds { SameKeys (held_in K.handle_of self.new) (held_in K.handle_of self.old) }
         ensures lender { SameMemory self.old self.new }
     {
         let to = self.sift_up(at);
@@ -24,11 +24,11 @@ impl<'a, K: Key> IndexedHeap<'a, K> {
 
     // Moves the key at `at` up until it comes after its parent, and answers where it is then.
     fn sift_up(&mut self, mut at: usize) -> usize
-        requires { Moving handle_of before self.old at }
-        ensures sifts { Moving handle_of before self.new result }
-        ensures over { Risen before self.new result }
+        requires { Moving K.handle_of K.before self.old at }
+        ensures sifts { Moving K.handle_of K.before self.new result }
+        ensures over { Risen K.before self.new result }
         ensures len { self.new.len ≡ self.old.len }
-        ensures holds { SameKeys (held_in handle_of self.new) (held_in handle_of self.old) }
+        ensures holds { SameKeys (held_in K.handle_of self.new) (held_in K.handle_of self.old) }
         ensures lender { SameMemory self.old self.new }
     {
         while 0 < at && self.before_parent(at) {
@@ -43,11 +43,11 @@ impl<'a, K: Key> IndexedHeap<'a, K> {
 
     // Moves the key at `at`, which comes after its parent, down until it comes before its children, and tells its place.
     fn sift_down(&mut self, mut at: usize)
-        requires sifts { Moving handle_of before self.old at }
-        requires over { Risen before self.old at }
-        ensures order { Sound handle_of before self.new }
+        requires sifts { Moving K.handle_of K.before self.old at }
+        requires over { Risen K.before self.old at }
+        ensures order { Sound K.handle_of K.before self.new }
         ensures len { self.new.len ≡ self.old.len }
-        ensures holds { SameKeys (held_in handle_of self.new) (held_in handle_of self.old) }
+        ensures holds { SameKeys (held_in K.handle_of self.new) (held_in K.handle_of self.old) }
         ensures lender { SameMemory self.old self.new }
     {
         let mut child = self.next_down(at);
@@ -64,21 +64,21 @@ impl<'a, K: Key> IndexedHeap<'a, K> {
 
     fn before_parent(&self, at: usize) -> bool
         requires { (0 < at) × (at < length self.now.keys.now) }
-        ensures { (d : K) → result ≡ before (slice_index_or self.now.keys.now at d) (slice_index_or self.now.keys.now ((at - 1) / 2) d) }
+        ensures { (d : K) → result ≡ K.before (slice_index_or self.now.keys.now at d) (slice_index_or self.now.keys.now ((at - 1) / 2) d) }
     {
         before_parent(self.keys, at)
     }
 
     fn handle_at(&self, i: usize) -> usize
         requires { i < length self.now.keys.now }
-        ensures { (d : K) → result ≡ handle_of (slice_index_or self.now.keys.now i d) }
+        ensures { (d : K) → result ≡ K.handle_of (slice_index_or self.now.keys.now i d) }
     {
         handle_at(self.keys, i)
     }
 
     fn next_down(&self, at: usize) -> usize
         requires { (self.now.len ≤ 1024) × (self.now.len ≤ length self.now.keys.now) × (at < self.now.len) }
-        ensures { (d : K) → result ≡ next_down before (λ i. get_or self.now.keys.now i d) self.now.len at }
+        ensures { (d : K) → result ≡ next_down K.before (λ i. get_or self.now.keys.now i d) self.now.len at }
     {
         next_down(self.keys, self.len, at)
     }

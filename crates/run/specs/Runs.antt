@@ -7,25 +7,25 @@ use Rattle.run.specs.declared.run.Run.{Run}
 use Rattle.run.specs.States.{State, Tied}
 
 -- What a run holds, its discipline read by the discipline's own meaning.
-abbrev pub meaning : {D : Type 0} → Ghosts D → Run D → State
+abbrev pub meaning : {D : Type 0} → (d : Ghosts D) → Run D d → State
 meaning d r = record { present = d.present r.discipline; choice = d.choice r.discipline; book = r.book; accounts = r.accounts }
 
 -- The discipline of a run.
-abbrev pub discipline_of : {D : Type 0} → Run D → D
+abbrev pub discipline_of : {D : Type 0} {d : Ghosts D} → Run D d → D
 discipline_of r = r.discipline
 
 -- A run that is tied stays tied from x to y.
-abbrev pub StaysTied : {D : Type 0} → Ghosts D → Run D → Run D → Type 0
+abbrev pub StaysTied : {D : Type 0} → (d : Ghosts D) → Run D d → Run D d → Type 0
 StaysTied d x y = Tied (meaning d x) → Tied (meaning d y)
 
 -- From x to y the discipline is untouched.
-abbrev pub Untouched : {D : Type 0} → Run D → Run D → Type 0
+abbrev pub Untouched : {D : Type 0} {d : Ghosts D} → Run D d → Run D d → Type 0
 Untouched x y = discipline_of y ≡ discipline_of x
 
 -- The same of a tied run that refuses a call.
-abbrev pub UntouchedIfRefused : {D T E : Type 0} → Ghosts D → Run D → Result T E → Run D → Type 0
+abbrev pub UntouchedIfRefused : {D T E : Type 0} → (d : Ghosts D) → Run D d → Result T E → Run D d → Type 0
 UntouchedIfRefused d x r y = Tied (meaning d x) → KeptIfRefused r (discipline_of x) (discipline_of y)
 
 -- From x to y the discipline moves by its own rule.
-abbrev pub Moves : {D : Type 0} → Ghosts D → Move → Run D → Run D → Type 0
+abbrev pub Moves : {D : Type 0} → (d : Ghosts D) → Move → Run D d → Run D d → Type 0
 Moves d m x y = d.moves m (discipline_of x) (discipline_of y)

@@ -1,7 +1,7 @@
 -- What a spelled number looks like, and that digits with no leading zero are one.
 use Rattle.std.proofs.Common.{◌≡◌, ℕ, zero, suc, ◌+◌, ◌-◌, ◌*◌, ◌<◌, ◌≤◌, true, eqb, List, length, get_or, take, decimal, sym, refl, ap, ◌∙◌, subst, ⊎_elim, arith, length-take-le, rules}
 use Rattle.std.specs.Int.{IsInRange}
-use Rattle.std.specs.Char.{digit_value as digit_value}
+use Rattle.std.specs.Char.{digit_value as value_of_digit}
 use Rattle.std.specs.Str.Parse.{AllDigits, digits_value}
 use Rattle.std.proofs.lemmas.Str.Parse.{IsNumeralModel, digits_value_short, numerals_by_value, tells_digits, digit_at}
 use Rattle.std.proofs.lemmas.Int.Digits.{digits_value_more, digits_more}
@@ -34,7 +34,7 @@ spells_lead bs v h e = ap length h.1 ∙ lead v h.0 (ap (λ l. get_or l 0 0) (sy
 pub spells_digit : (bs : List ℕ) (v i : ℕ) → Spells bs v → i < length bs → IsInRange 48 57 (get_or bs i 0)
 spells_digit bs v i h l = digit_at bs i (subst (AllDigits 10) (sym h.1) (digits_decimal own v (omega arith))) l
 
-digit_value : (c : ℕ) → 48 ≤ c → c ≤ 57 → digit_value c ≡ c - 48
+digit_value : (c : ℕ) → 48 ≤ c → c ≤ 57 → value_of_digit c ≡ c - 48
 digit_value c lo hi = search rules
 
 -- The value of what a loop over at most six digits has read before one of them.

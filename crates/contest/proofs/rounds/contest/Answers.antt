@@ -8,7 +8,7 @@ use Rattle.contest.proofs.rounds.contest.Goals as goal
 pub loop-round-init : goal.loop-round-init
 loop-round-init g c =
     let e : ◌≡◌ {A = ℕ} c.mark.result c.args.stray.mark = c.mark.ensures in
-    let marks = c.other-marks-first in (
+    let marks = c.other_marks-first in (
       led_made g.D.Discipline g.met.D.Discipline.sound c.args.stray marks.result.0 marks.result.1 c.new-srpt.result c.new-rival.result
           c.new-srpt.ensures.is c.new-rival.ensures.is (λ i. marks.ensures.0 (e ∙ i)) (λ i. marks.ensures.1 (e ∙ i)),
       refl,

@@ -5,10 +5,10 @@ use Rattle.trace.proofs.Unique.{one_list}
 use Rattle.trace.proofs.Settled.{trace_settled}
 use Rattle.trace.proofs.whole.whole_trace.Goals as goal
 
-pub returns-then-is-too-long : goal.returns-then-is-too-long
-returns-then-is-too-long c = record { reads = inl (ltb-true _ _ (sym c.if-is-too-long.ensures), refl); unique = one_list; settled = trace_settled }
+pub returns-then-is_too_long : goal.returns-then-is_too_long
+returns-then-is_too_long c = record { reads = inl (ltb-true _ _ (sym c.if-is_too_long.ensures), refl); unique = one_list; settled = trace_settled }
 
 pub returns : goal.returns
 returns c =
-    let short = ltb-false _ _ (sym c.if-is-too-long.ensures) in
-    record { reads = MatchResult-weaker c.lines-from.result c.lines-from.ensures (λ counts h. (short, h)) (λ e h. inr (short, h)); unique = one_list; settled = trace_settled }
+    let short = ltb-false _ _ (sym c.if-is_too_long.ensures) in
+    record { reads = MatchResult-weaker c.lines_from.result c.lines_from.ensures (λ counts h. (short, h)) (λ e h. inr (short, h)); unique = one_list; settled = trace_settled }

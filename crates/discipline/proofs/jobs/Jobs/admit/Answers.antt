@@ -11,11 +11,11 @@ push-requires c =
     let l = d.long in
     let z : get_or d.left c.args.number 0 ≡ 0 = omega arith in
     let low : c.args.number < length d.left = omega arith in
-    let more = size_low c.args.size (sym c.if-not-is-size.ensures) in
+    let more = size_low c.args.size (sym c.if-not-is_size.ensures) in
     omega (arith, d.many, room d.left c.args.number c.args.size low l z more)
 
-pub invariant-of-self : goal.invariant-of-self
-invariant-of-self c =
+pub invariant_of-self : goal.invariant_of-self
+invariant_of-self c =
     let d = c.args.self.now in
     let n = c.args.number in
     let v = c.args.size in
@@ -23,15 +23,12 @@ invariant-of-self c =
     let l = d.long in
     let z : get_or d.left n 0 ≡ 0 = omega arith in
     let low : n < length d.left = omega arith in
-    let good = sym c.if-not-is-size.ensures in
+    let good = sym c.if-not-is_size.ensures in
     let more = size_low v good in
-    let e = c.push.ensures in (
-      length-set d.left n v ∙ l,
-      (
-        set_fits d.left n v low d.fits (size_high v good),
-        (
-          ap length e ∙ length_push row n ∙ ap (λ m. m + 1) d.many ∙ sym (count_more d.left n v low z more),
-          (subst (λ (xs : List ℕ). Once xs (set d.left n v)) (sym e) (once_more d.left n v low row d.once z more), tt),
-        ),
-      ),
-    )
+    let e = c.push.ensures in
+    record {
+      long = length-set d.left n v ∙ l;
+      fits = set_fits d.left n v low d.fits (size_high v good);
+      many = ap length e ∙ length_push row n ∙ ap (λ m. m + 1) d.many ∙ sym (count_more d.left n v low z more);
+      once = subst (λ (xs : List ℕ). Once xs (set d.left n v)) (sym e) (once_more d.left n v low row d.once z more);
+    }

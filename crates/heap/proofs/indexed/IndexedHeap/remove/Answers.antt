@@ -3,7 +3,7 @@ use Rattle.heap.proofs.indexed.IndexedHeap.remove.Goals as goal
 
 pub returns-in-Taken : goal.returns-in-Taken
 returns-in-Taken g c =
-    let closed = c.close-gap.ensures in
+    let closed = c.close_gap.ensures in
     record {
       order = closed.order;
       answers = search rules;

@@ -11,11 +11,11 @@ push-requires c =
     let l = d.long in
     let z : get_or d.left c.args.number 0 ≡ 0 = omega arith in
     let low : c.args.number < length d.left = omega arith in
-    let more = size_low c.args.size (sym c.if-not-is-size.ensures) in
+    let more = size_low c.args.size (sym c.if-not-is_size.ensures) in
     omega (arith, d.many, room d.left c.args.number c.args.size low l z more)
 
-pub invariant-of-self : goal.invariant-of-self
-invariant-of-self c =
+pub invariant_of-self : goal.invariant_of-self
+invariant_of-self c =
     let d = c.args.self.now in
     let n = c.args.number in
     let v = c.args.size in
@@ -23,7 +23,7 @@ invariant-of-self c =
     let l = d.long in
     let z : get_or d.left n 0 ≡ 0 = omega arith in
     let low : n < length d.left = omega arith in
-    let good = sym c.if-not-is-size.ensures in
+    let good = sym c.if-not-is_size.ensures in
     let more = size_low v good in
     let e = c.push.ensures in (
       length-set d.left n v ∙ l,

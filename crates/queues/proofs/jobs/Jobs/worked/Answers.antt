@@ -4,8 +4,8 @@ use Rattle.queues.specs.Rows.{row_of}
 use Rattle.queues.specs.Admitted.{Once, set_fits, leaves_many, leaves_once}
 use Rattle.queues.proofs.jobs.Jobs.worked.Goals as goal
 
-pub invariant-of-self : goal.invariant-of-self
-invariant-of-self c =
+pub invariant_of-self : goal.invariant_of-self
+invariant_of-self c =
     let d = c.args.self.now in
     let n = c.args.number in
     let v = get_or d.left n 0 - 1 in

@@ -8,12 +8,12 @@ pub loop-k-preserved : goal.loop-k-preserved
 loop-k-preserved c =
     let row = row_of c.loop-k.self in
     let k = c.loop-k.k in
-    let v = c.number-at-next.result in
-    let e = c.put-at.ensures in
+    let v = c.number_at-next.result in
+    let e = c.put_at.ensures in
     let s = c.loop-k.invariant.1 in
     let low : k < length row = omega (arith, c.loop-k-test.true) in
     let some : 0 < k = omega arith in (
-      gap_more row (row_of c.put-at.new.self) k v some low c.number-at-next.ensures e ∙ c.loop-k.invariant.0,
+      gap_more row (row_of c.put_at.new.self) k v some low c.number_at-next.ensures e ∙ c.loop-k.invariant.0,
       ap length e ∙ length-set row (k - 1) v ∙ s,
     )
 
@@ -26,7 +26,7 @@ returns c =
     let n = c.len-len.ensures.counts in
     let ends : length row ≡ k = omega arith in
     let some : 0 < k = omega arith in
-    c.drop-last.ensures
+    c.drop_last.ensures
     ∙ ap (λ m. take (m - 1) row) ends
     ∙ sym (gap_end row k (omega arith) some)
     ∙ c.loop-k.invariant.0

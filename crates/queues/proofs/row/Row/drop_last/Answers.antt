@@ -8,6 +8,6 @@ pub returns : goal.returns
 returns c =
     let r = c.args.self.now in
     let a = around r.front r.items in
-    ap (λ n. take n a) c.saturating-sub-self.ensures
+    ap (λ n. take n a) c.saturating_sub-self.ensures
     ∙ sym (take-take (r.len - 1) r.len a (omega arith))
     ∙ ap (λ n. take (n - 1) (row_of r)) (sym (row_len r))

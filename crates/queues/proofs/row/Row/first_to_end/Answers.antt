@@ -8,4 +8,4 @@ pub push-requires : goal.push-requires
 push-requires c =
     let r = c.args.self.now in
     let f = r.few in
-    omega (arith, ap length c.drop-first.ensures, length-drop 1 (row_of r), row_len r)
+    omega (arith, ap length c.drop_first.ensures, length-drop 1 (row_of r), row_len r)

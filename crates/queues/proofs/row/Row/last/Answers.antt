@@ -13,4 +13,4 @@ pub returns : goal.returns
 returns c =
     let row = row_of c.args.self.now in
     let e = c.len-len.ensures.counts in
-    ap Some (c.number-at.ensures ∙ ap (λ n. get_or row (n - 1) 0) e) ∙ last_is row (omega arith)
+    ap Some (c.number_at.ensures ∙ ap (λ n. get_or row (n - 1) 0) e) ∙ last_is row (omega arith)

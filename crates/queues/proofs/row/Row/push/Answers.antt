@@ -4,8 +4,8 @@ use Rattle.queues.specs.Rows.{around}
 use Rattle.queues.proofs.Ring.{row_len, row_push}
 use Rattle.queues.proofs.row.Row.push.Goals as goal
 
-pub invariant-of-self : goal.invariant-of-self
-invariant-of-self c =
+pub invariant_of-self : goal.invariant_of-self
+invariant_of-self c =
     let r = c.args.self.now in
     (length-set r.items c.place-at.result c.args.number ∙ r.long, (r.within, (omega (arith, c.requires, row_len r), tt)))
 

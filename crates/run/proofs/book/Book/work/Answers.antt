@@ -11,4 +11,4 @@ returns c =
     let b : Book = c.args.self.now in
     let lt : c.args.job < length b.lines = omega arith in
     let put : Line → Book = λ l. record { lines = set b.lines c.args.job l; entered = b.entered } in
-    ap put (c.work-line.ensures ∙ ap (λ l. worked_line l c.args.tick) (get_or_default b.lines c.args.job _ unused lt))
+    ap put (c.work_line.ensures ∙ ap (λ l. worked_line l c.args.tick) (get_or_default b.lines c.args.job _ unused lt))

@@ -5,8 +5,8 @@ use Rattle.run.proofs.Keeping.{later_lines}
 use Rattle.run.proofs.Ended.{count_few, hand_clock, end_clock, end_total, end_most, end_lines, end_held}
 use Rattle.run.proofs.run.Run.back.Goals as goal
 
-pub invariant-of-self : goal.invariant-of-self
-invariant-of-self g c =
+pub invariant_of-self : goal.invariant_of-self
+invariant_of-self g c =
     let r = c.args.self.now in
     let a : Accounts = r.accounts in
     let a' : Accounts = c.end.new.self in
@@ -14,5 +14,13 @@ invariant-of-self g c =
     let n = c.present-present.result in
     let f = c.end.ensures in
     let few : n ≤ 1024 = subst (λ n. n ≤ 1024) (sym c.present-present.ensures) (count_few _ (g.met.D.Discipline.sound r.discipline).long) in
-    let lt : a.clock < 16777215 = hand_clock a l.mark l.tick l.job c.in-default.field-0 r.held (c.in-default.ensures ∙ ap (may_answer a) c.call.ensures) in
-    (r.long, (r.many, (end_lines a a' n few f r.book (later_lines r.book a.clock r.lines), (end_clock a a' n few f lt, (end_total a a' n few f r.total, (end_most a a' n few f r.most, (end_held a a' n few f, tt)))))))
+    let lt : a.clock < 16777215 = hand_clock a l.mark l.tick l.job c.in_default.field-0 r.held (c.in_default.ensures ∙ ap (may_answer a) c.call.ensures) in
+    record {
+      long = r.long;
+      many = r.many;
+      lines = end_lines a a' n few f r.book (later_lines r.book a.clock r.lines);
+      clock = end_clock a a' n few f lt;
+      total = end_total a a' n few f r.total;
+      most = end_most a a' n few f r.most;
+      held = end_held a a' n few f;
+    }

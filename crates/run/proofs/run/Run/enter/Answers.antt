@@ -16,8 +16,8 @@ use Rattle.run.proofs.Tying.{step_tied}
 use Rattle.run.proofs.Accepting.{enter_rules, admits, admit_refused, made_good}
 use Rattle.run.proofs.run.Run.enter.Goals as goal
 
-pub returns-in-err-admit : goal.returns-in-err-admit
-returns-in-err-admit g c =
+pub returns-in_err-admit : goal.returns-in_err-admit
+returns-in_err-admit g c =
     let d = g.D.Discipline in
     let x = c.admit.new.self in
     let n = c.args.name.now in
@@ -25,12 +25,12 @@ returns-in-err-admit g c =
     let s : State = meaning d c.args.self.now in
     let s' : State = record { present = d.present x; choice = d.choice x; book = c.args.self.now.book; accounts = c.args.self.now.accounts } in
     let k = c.args.self.now.book.entered in
-    let e = c.in-err-admit.field-0.0 in
-    let refused = c.in-err-admit.ensures in
+    let e = c.in_err-admit.field-0.0 in
+    let refused = c.in_err-admit.ensures in
     let rule : ◌≡◌ {A = Result ℕ Refusal} (Ok k) (enter_rule s n z) = search rules in
     let same : s' ≡ s = λ i. record { present = refused.leaves i; choice = refused.keeps i; book = s.book; accounts = s.accounts } in
     let does : Enters s n z (Err e) s' = record { answers = admit_refused s n z k e rule refused.answers; leaves = same } in
-    let p = err_from_is_err_and c.from-residual-in-err-admit.result c.from-residual-in-err-admit.ensures.1 in
+    let p = err_from_is_err_and c.from_residual-in_err-admit.result c.from_residual-in_err-admit.ensures.1 in
     rw (p.1, p.2)
     (record {
       does = does;
@@ -40,8 +40,8 @@ returns-in-err-admit g c =
       stays = λ t. absurd (ok_not_err tt e (sym (refused.answers ∙ admits s n z k t rule)));
     })
 
-pub invariant-of-self-2 : goal.invariant-of-self-2
-invariant-of-self-2 g c =
+pub invariant_of-self-2 : goal.invariant_of-self-2
+invariant_of-self-2 g c =
     let r = c.args.self.now in
     let b : Book = r.book in
     let w : Name = c.in-Some.name in
@@ -49,19 +49,18 @@ invariant-of-self-2 g c =
     let z = c.args.size in
     let e = sym c.fill.ensures in
     let long = r.long in
-    let room = c.if-number-ge-MAX-JOBS.false in
+    let room = c.if-number-ge-MAX_JOBS.false in
     let low : b.entered < length b.lines = omega arith in
-    let size = sym c.if-not-is-size.ensures in
-    let name = made_good c.args.name.now w c.in-Some.ensures.keeps c.in-Some.ensures.spells in (
-      subst (λ (x : Book). length x.lines ≡ 1024) e (length-set b.lines b.entered (new_line w t z) ∙ long),
-      (
-        subst (λ (x : Book). x.entered ≤ 1024) e (omega arith),
-        (
-          subst (λ (x : Book). LinesKept x t) e (entered_lines b t z w low size name r.lines),
-          (r.clock, (r.total, (r.most, (r.held, tt)))),
-        ),
-      ),
-    )
+    let size = sym c.if-not-is_size.ensures in
+    let name = made_good c.args.name.now w c.in-Some.ensures.keeps c.in-Some.ensures.spells in record {
+      long = subst (λ (x : Book). length x.lines ≡ 1024) e (length-set b.lines b.entered (new_line w t z) ∙ long);
+      many = subst (λ (x : Book). x.entered ≤ 1024) e (omega arith);
+      lines = subst (λ (x : Book). LinesKept x t) e (entered_lines b t z w low size name r.lines);
+      clock = r.clock;
+      total = r.total;
+      most = r.most;
+      held = r.held;
+    }
 
 pub returns : goal.returns
 returns g c =

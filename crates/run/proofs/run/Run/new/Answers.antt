@@ -10,18 +10,17 @@ use Rattle.run.proofs.Reached.{always_lawful}
 use Rattle.run.proofs.Tying.{nobody, made_state, made_tied}
 use Rattle.run.proofs.run.Run.new.Goals as goal
 
-pub invariant-of-result : goal.invariant-of-result
-invariant-of-result g c =
-    let e = sym c.blank.ensures in (
-      subst (λ (b : Book). length b.lines ≡ 1024) e (length-replicate 1024 unused),
-      (
-        subst (λ (b : Book). b.entered ≤ 1024) e (omega arith),
-        (
-          subst (λ (b : Book). LinesKept b 0) e blank_lines,
-          (omega arith, (omega arith, (omega arith, (refl, tt)))),
-        ),
-      ),
-    )
+pub invariant_of-result : goal.invariant_of-result
+invariant_of-result g c =
+    let e = sym c.blank.ensures in record {
+      long = subst (λ (b : Book). length b.lines ≡ 1024) e (length-replicate 1024 unused);
+      many = subst (λ (b : Book). b.entered ≤ 1024) e (omega arith);
+      lines = subst (λ (b : Book). LinesKept b 0) e blank_lines;
+      clock = omega arith;
+      total = omega arith;
+      most = omega arith;
+      held = refl;
+    }
 
 pub returns : goal.returns
 returns g c =

@@ -7,8 +7,8 @@ use Rattle.run.proofs.Keeping.{left_small, sum_small}
 use Rattle.run.proofs.Asking.{no_line}
 use Rattle.run.proofs.run.Run.unfinished.Goals as goal
 
-pub overflow-add-sum : goal.overflow-add-sum
-overflow-add-sum g c =
+pub overflow_add-sum : goal.overflow_add-sum
+overflow_add-sum g c =
     let r = c.args.self.now in
     let l = r.long in
     let i = c.loop-line.line-index in
