@@ -45,33 +45,33 @@ srpt_picks s h o j c t b e = let q = c j e in (omega (arith, b j, q.0), λ i p. 
 -- ---- one run
 
 module _ {D : Type 0} (d : Ghosts D) (sound : (x : D) → Sound (d.present x) (d.choice x)) (m : ℕ) where
-  pub reaches : {cs : List Call} {es : List Event} {r : Run D} → Chain d m cs es r → Reaches m es (meaning d r)
+  pub reaches : {cs : List Call} {es : List Event} {r : Run D d} → Chain d m cs es r → Reaches m es (meaning d r)
   reaches (made r e) = subst (λ (s : State). Reaches m [] s) (sym e) (H.made (subst (λ (s : State). Sound s.present s.choice) e (sound r.discipline)))
   reaches (called r' x a p) = H.more (reaches x) p (sound r'.discipline)
 
-  asked : {cs : List Call} {es : List Event} {r : Run D} → Chain d m cs es r → Asked m cs es
+  asked : {cs : List Call} {es : List Event} {r : Run D d} → Chain d m cs es r → Asked m cs es
   asked (made r e) = tt
   asked (called r' x a p) = (asked x, a)
 
   module _ (R : Rule) (permits : (h : History) (o : Schedule) (e : Entry) → R h o e → Permitted h o e) (rests : (h : History) (o : Schedule) → Nobody h o → R h o idle)
-      (C : State → Type 0) (chosen : (r : Run D) → C (meaning d r))
+      (C : State → Type 0) (chosen : (r : Run D d) → C (meaning d r))
       (picks : (s : State) (h : History) (o : Schedule) (j : ℕ) → C s → Tied s → Table s.present h o → s.choice ≡ Some j → R h o (job j)) where
-    pub kept : {cs : List Call} {es : List Event} {r : Run D} → Chain d m cs es r → Kept R m (history es) (own_schedule es) (lease_out es) (meaning d r)
+    pub kept : {cs : List Call} {es : List Event} {r : Run D d} → Chain d m cs es r → Kept R m (history es) (own_schedule es) (lease_out es) (meaning d r)
     kept (made r e) = subst (λ (s : State). Kept R m [] [] None s) (sym e) (made_kept R permits rests m C picks)
     kept (called {es = es} {e = e} {r = r} r' x a p) =
         step_kept R permits rests m C picks e es (meaning d r) (meaning d r') (always_lawful m es (meaning d r) (reaches x)).tied (chosen r) (kept x) p
 
   -- every run serves somebody who is present, and idles only where nobody is
-  pub by_any : {cs : List Call} {es : List Event} {r : Run D} → Chain d m cs es r → Kept NonIdling m (history es) (own_schedule es) (lease_out es) (meaning d r)
+  pub by_any : {cs : List Call} {es : List Event} {r : Run D d} → Chain d m cs es r → Kept NonIdling m (history es) (own_schedule es) (lease_out es) (meaning d r)
   by_any x = kept NonIdling nonidling_permitted (λ h o n. n) (λ s. Unit {0}) (λ r. tt) any_picks x
 
-  ruled : {cs : List Call} {es : List Event} {r : Run D} → Chain d m cs es r → Ruled cs es
+  ruled : {cs : List Call} {es : List Event} {r : Run D d} → Chain d m cs es r → Ruled cs es
   ruled (made r e) = tt
   ruled (called {es = es} {c = c} {e = e} {r = r} r' x a p) =
       let w = always_lawful m es (meaning d r) (reaches x) in
       (ruled x, answered NonIdling m es (meaning d r) (meaning d r') w.tied (by_any x) w.time (omega (arith, w.work)) c e a p)
 
-  pub faithful : {cs : List Call} {es : List Event} {r : Run D} → Chain d m cs es r → Faithful cs es (meaning d r)
+  pub faithful : {cs : List Call} {es : List Event} {r : Run D d} → Chain d m cs es r → Faithful cs es (meaning d r)
   faithful {es = es} {r = r} x =
       let q = by_any x in
       let p = kept_legal NonIdling nonidling_permitted (λ h o n. n) (history es) (own_schedule es) q.follows in
@@ -112,10 +112,10 @@ legal_before (suc n) k (H.pass (Err x) ∷ es) t q p = legal_before n k es t (om
 -- ---- a run over SRPT
 
 module _ {Q : Type 0} (g : Ghosts Q) (sound : (x : Q) → Sound (g.present x) (g.choice x)) (short : (x : Q) → Picks (g.present x) (g.choice x)) (m : ℕ) where
-  by_srpt : {cs : List Call} {es : List Event} {r : Run Q} → Chain g m cs es r → Kept Shortest m (history es) (own_schedule es) (lease_out es) (meaning g r)
+  by_srpt : {cs : List Call} {es : List Event} {r : Run Q g} → Chain g m cs es r → Kept Shortest m (history es) (own_schedule es) (lease_out es) (meaning g r)
   by_srpt x = kept g sound m Shortest shortest_permitted (λ h o n. n) (λ s. Picks s.present s.choice) (λ r. short r.discipline) srpt_picks x
 
-  fewest_now : {cs : List Call} {es : List Event} {r : Run Q} → Chain g m cs es r → (t : Schedule) → Legal (history es) t → present_in (meaning g r) ≤ occupancy (history es) t
+  fewest_now : {cs : List Call} {es : List Event} {r : Run Q g} → Chain g m cs es r → (t : Schedule) → Legal (history es) t → present_in (meaning g r) ≤ occupancy (history es) t
   fewest_now {es = es} {r = r} x t p =
       let q = by_srpt x in
       omega (arith, fewest_at_end (history es) (own_schedule es) t q.follows p, table_count (meaning g r).present (history es) (own_schedule es) q.table)

@@ -28,7 +28,7 @@ handed_stray m h o l n e = subst (λ (x : Hand). Handed m (hand_of x) o l) (sym 
 
 -- ---- what becomes of it
 
-module _ {D : Type 0} (d : Ghosts D) (x y : Run D) (o : Option Lease) (k l : Lease) where
+module _ {D : Type 0} (d : Ghosts D) (x y : Run D d) (o : Option Lease) (k l : Lease) where
   pub plays_accepted : (e : End) (h : Hand) (u : Unit {0}) → Handed (meaning d x).accounts.mark (hand_of h) o l → Step (handed_in e l (Ok u)) (meaning d x) (meaning d y)
       → Plays d x o k (handing_in e h) (record { lease = None; stray = k; answer = Accepted }) y
   plays_accepted Worked h u a p = record { event = handed_in Worked l (Ok u); asks = dones (hand_of h) l (Ok u) a; does = p; leaves = refl; unspent = refl; answers = refl }

@@ -41,7 +41,7 @@ carried R h s a (Out j) k o e p = e ∙ p.0
 
 module _ {D : Type 0} (d : Ghosts D) (sound : (x : D) → Sound (d.present x) (d.choice x)) (m : ℕ) where
   -- a call may be made
-  ready : {cs : List C.Call} {es : List Event} {r : Run D} → Chain d m cs es r → (o : Option Lease) → o ≡ lease_out es → (k : Lease) → (k.mark ≡ m → ⊥) → Ready d r o k
+  ready : {cs : List C.Call} {es : List Event} {r : Run D d} → Chain d m cs es r → (o : Option Lease) → o ≡ lease_out es → (k : Lease) → (k.mark ≡ m → ⊥) → Ready d r o k
   ready {es = es} {r = r} x o e k n =
       let q = by_any d sound m x in
       record {
@@ -50,14 +50,14 @@ module _ {D : Type 0} (d : Ghosts D) (sound : (x : D) → Sound (d.present x) (d
       }
 
   -- and makes the chain longer
-  lengthened : {cs : List C.Call} {es : List Event} {r : Run D} → Chain d m cs es r → (o : Option Lease) → o ≡ lease_out es → (c c' : C.Call) → c' ≡ c → (e : Event) (r' : Run D)
+  lengthened : {cs : List C.Call} {es : List Event} {r : Run D d} → Chain d m cs es r → (o : Option Lease) → o ≡ lease_out es → (c c' : C.Call) → c' ≡ c → (e : Event) (r' : Run D d)
       → Asks (meaning d r).accounts.mark o c e → Step e (meaning d r) (meaning d r') → Chain d m (c' ∷ cs) (e ∷ es) r'
   lengthened {es = es} {r = r} x o i c c' j e r' a p =
       let q = by_any d sound m x in
       called r' x (subst (λ (b : C.Call). Asks m (lease_out es) b e) (sym j) (subst (λ (n : ℕ). Asks n (lease_out es) c e) q.marked (subst (λ (l : Option Lease). Asks (meaning d r).accounts.mark l c e) i a))) p
 
   -- the lease that is out is taken in
-  takes : {cs : List C.Call} {es : List Event} {r : Run D} → Chain d m cs es r → (o : Option Lease) → o ≡ lease_out es → Takes d r o
+  takes : {cs : List C.Call} {es : List Event} {r : Run D d} → Chain d m cs es r → (o : Option Lease) → o ≡ lease_out es → Takes d r o
   takes x None e = tt
   takes {es = es} {r = r} x (Some l) e =
       let q = by_any d sound m x in
@@ -65,7 +65,7 @@ module _ {D : Type 0} (d : Ghosts D) (sound : (x : D) → Sound (d.present x) (d
       (lease_is NonIdling (history es) (own_schedule es) (meaning d r).accounts (meaning d r).accounts.lease (lease_out es) l q.held (sym e))
 
 -- what came before
-before : {D : Type 0} {d : Ghosts D} {m : ℕ} {cs : List C.Call} {es : List Event} {r : Run D} → Chain d m cs es r → (n : ℕ) → (x : Run D) × Chain d m (drop n cs) (drop n es) x
+before : {D : Type 0} {d : Ghosts D} {m : ℕ} {cs : List C.Call} {es : List Event} {r : Run D d} → Chain d m cs es r → (n : ℕ) → (x : Run D d) × Chain d m (drop n cs) (drop n es) x
 before {r = r} x zero = (r, x)
 before (made r e) (suc n) = (r, made r e)
 before (called r' x a p) (suc n) = before x n
@@ -82,7 +82,7 @@ counted_at (suc n) [] = omega arith
 counted_at (suc n) (e ∷ es) = counted_at n es
 
 least_counted :
-    (m : ℕ) (cs : List C.Call) (es : List Event) (r : Run Srpt) → Chain ghosts m cs es r → (t : Schedule) → Legal (history es) t
+    (m : ℕ) (cs : List C.Call) (es : List Event) (r : Run Srpt ghosts) → Chain ghosts m cs es r → (t : Schedule) → Legal (history es) t
     → (n : ℕ) → get_or (occupancies es) n 0 ≤ occupancy (history (drop n es)) (entries_before n es t)
 least_counted m cs es r x t p n =
     let b = before x n in
@@ -91,7 +91,7 @@ least_counted m cs es r x t p n =
 -- ---- both runs
 
 module _ {D : Type 0} (d : Ghosts D) (sound : (x : D) → Sound (d.present x) (d.choice x)) (k : Lease) where
-  pub led_made : (a b : ℕ) (x : Run Srpt) (y : Run D) → meaning ghosts x ≡ made_with a → meaning d y ≡ made_with b → (k.mark ≡ a → ⊥) → (k.mark ≡ b → ⊥)
+  pub led_made : (a b : ℕ) (x : Run Srpt ghosts) (y : Run D d) → meaning ghosts x ≡ made_with a → meaning d y ≡ made_with b → (k.mark ≡ a → ⊥) → (k.mark ≡ b → ⊥)
       → Led d k [] x y (record { srpt = None; rival = None; stray = k })
   led_made a b x y e f p q = record {
     mark = a;
@@ -111,14 +111,14 @@ module _ {D : Type 0} (d : Ghosts D) (sound : (x : D) → Sound (d.present x) (d
     strange' = q;
   }
 
-  pub led_ready : (rs : List Round) (x : Run Srpt) (y : Run D) (o : Leases) → Led d k rs x y o → Ready ghosts x o.srpt o.stray × Ready d y o.rival o.stray
+  pub led_ready : (rs : List Round) (x : Run Srpt ghosts) (y : Run D d) (o : Leases) → Led d k rs x y o → Ready ghosts x o.srpt o.stray × Ready d y o.rival o.stray
   led_ready rs x y o s =
       let same : o.stray.mark ≡ k.mark = ap (λ (l : Lease). l.mark) s.unspent in (
         ready ghosts least_sound s.mark s.chain o.srpt s.lease o.stray (λ e. s.strange (sym same ∙ e)),
         ready d sound s.mark' s.chain' o.rival s.lease' o.stray (λ e. s.strange' (sym same ∙ e)),
       )
 
-  led_turned : (rs : List Round) (x : Run Srpt) (y : Run D) (o : Leases) (c : Call) (o' : Leases) (r : Round) (x' : Run Srpt) (y' : Run D)
+  led_turned : (rs : List Round) (x : Run Srpt ghosts) (y : Run D d) (o : Leases) (c : Call) (o' : Leases) (r : Round) (x' : Run Srpt ghosts) (y' : Run D d)
       → Led d k rs x y o → Turns d x y o c o' r x' y' → Led d k (r ∷ rs) x' y' o'
   led_turned rs x y o c o' r x' y' s t =
       let j = ap call_of t.same in
@@ -144,7 +144,7 @@ module _ {D : Type 0} (d : Ghosts D) (sound : (x : D) → Sound (d.present x) (d
         strange' = s.strange';
       }
 
-  pub contested : (rs ss : List Round) (x : Run Srpt) (y : Run D) (o : Leases) → calls ss ≡ calls rs → Led d k (reverse ss) x y o → Contested d k rs ss x y o
+  pub contested : (rs ss : List Round) (x : Run Srpt ghosts) (y : Run D d) (o : Leases) → calls ss ≡ calls rs → Led d k (reverse ss) x y o → Contested d k rs ss x y o
   contested rs ss x y o e s =
       let compares = runs_compared ghosts d least_sound srpt_short sound s.mark s.mark' in
       record {
@@ -171,7 +171,7 @@ module _ {D : Type 0} (d : Ghosts D) (sound : (x : D) → Sound (d.present x) (d
       ∙ ap (set (calls rs) i) (ap call_of e ∙ sym (get_or-map (λ (x : Round). call_of x.call) rs i r C.Take l))
       ∙ set-get_or (calls rs) i C.Take
 
-  pub turned_again : (rs ss : List Round) (i : ℕ) (r v : Round) (x x' : Run Srpt) (y y' : Run D) (o o' : Leases) → i < length rs
+  pub turned_again : (rs ss : List Round) (i : ℕ) (r v : Round) (x x' : Run Srpt ghosts) (y y' : Run D d) (o o' : Leases) → i < length rs
       → Led d k (reverse (take i rs)) x y o × (calls rs ≡ calls ss) → Turns d x y o (get_or rs i r).call o' v x' y'
       → Led d k (reverse (take (i + 1) (set rs i v))) x' y' o' × (calls (set rs i v) ≡ calls ss)
   turned_again rs ss i r v x x' y y' o o' l s t = (

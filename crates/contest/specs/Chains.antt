@@ -27,7 +27,7 @@ pub data Asks (m : ℕ) (o : Option Lease) : Call → Event → Type 0 where
 
 -- The run r, made with mark m over a discipline of the meaning d, came by the calls cs, with the transcript es; the newest first. Each
 -- step is what that call's contract says (`Step`), and nothing else alters a run.
-pub data Chain {D : Type 0} (d : Ghosts D) (m : ℕ) : List Call → List Event → Run D → Type 0 where
-  made : (r : Run D) → meaning d r ≡ made_with m → Chain d m [] [] r
-  called : {cs : List Call} {es : List Event} {c : Call} {e : Event} {r : Run D} (r' : Run D)
+pub data Chain {D : Type 0} (d : Ghosts D) (m : ℕ) : List Call → List Event → Run D d → Type 0 where
+  made : (r : Run D d) → meaning d r ≡ made_with m → Chain d m [] [] r
+  called : {cs : List Call} {es : List Event} {c : Call} {e : Event} {r : Run D d} (r' : Run D d)
       → Chain d m cs es r → Asks m (lease_out es) c e → Step e (meaning d r) (meaning d r') → Chain d m (c ∷ cs) (e ∷ es) r'

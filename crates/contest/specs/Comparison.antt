@@ -44,12 +44,12 @@ pub record Faithful (cs : List Call) (es : List Event) (s : State) : Type 0 wher
 abbrev pub Fewest : {D : Type 0} → Ghosts D → ℕ → List Call → List Event → Type 0
 Fewest {D} d m cs es =
     (t : Schedule) → Legal (history es) t
-    → (n : ℕ) (r : Run D) → Chain d m (drop n cs) (drop n es) r
+    → (n : ℕ) (r : Run D d) → Chain d m (drop n cs) (drop n es) r
     → present_in (meaning d r) ≤ occupancy (history (drop n es)) (entries_before n es t)
 
 -- What holds of a run r over SRPT, of the meaning g and made with mark m, and of a run r' over any discipline, of the meaning d, that came
 -- by the same calls.
-pub record Compared {Q D : Type 0} (g : Ghosts Q) (d : Ghosts D) (m : ℕ) (cs : List Call) (es es' : List Event) (r : Run Q) (r' : Run D) : Type 0 where
+pub record Compared {Q D : Type 0} (g : Ghosts Q) (d : Ghosts D) (m : ℕ) (cs : List Call) (es es' : List Event) (r : Run Q g) (r' : Run D d) : Type 0 where
   -- Each is faithful by itself.
   pub srpt : Faithful cs es (meaning g r)
   pub rival : Faithful cs es' (meaning d r')
@@ -65,11 +65,11 @@ pub record Compared {Q D : Type 0} (g : Ghosts Q) (d : Ghosts D) (m : ℕ) (cs :
 
 -- Every run over a discipline of the meaning d is faithful, whatever the list of calls.
 abbrev pub RunsFaithful : {D : Type 0} → Ghosts D → Type 0
-RunsFaithful {D} d = (m : ℕ) (cs : List Call) (es : List Event) (r : Run D) → Chain d m cs es r → Faithful cs es (meaning d r)
+RunsFaithful {D} d = (m : ℕ) (cs : List Call) (es : List Event) (r : Run D d) → Chain d m cs es r → Faithful cs es (meaning d r)
 
 -- Every two runs of one list of calls compare so. As it holds of every list, it holds of every beginning of a list: before the first call
 -- and after each.
 abbrev pub RunsCompared : {Q D : Type 0} → Ghosts Q → Ghosts D → Type 0
 RunsCompared {Q} {D} g d =
-    (m m' : ℕ) (cs : List Call) (es es' : List Event) (r : Run Q) (r' : Run D)
+    (m m' : ℕ) (cs : List Call) (es es' : List Event) (r : Run Q g) (r' : Run D d)
     → Chain g m cs es r → Chain d m' cs es' r' → Compared g d m cs es es' r r'

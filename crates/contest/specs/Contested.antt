@@ -31,7 +31,7 @@ occupancies [] = []
 occupancies (e ∷ es) = occupancy (history (e ∷ es)) (own_schedule (e ∷ es)) ∷ occupancies es
 
 -- One call on both runs: x and y before it, x' and y' after it.
-pub record Turns {D : Type 0} (d : Ghosts D) (x : Run Srpt) (y : Run D) (o : Leases) (c : Call) (o' : Leases) (r : Round) (x' : Run Srpt) (y' : Run D) : Type 0 where
+pub record Turns {D : Type 0} (d : Ghosts D) (x : Run Srpt ghosts) (y : Run D d) (o : Leases) (c : Call) (o' : Leases) (r : Round) (x' : Run Srpt ghosts) (y' : Run D d) : Type 0 where
   pub same : r.call ≡ c
   pub first : Plays ghosts x o.srpt o.stray (call_of c) (record { lease = o'.srpt; stray = o'.stray; answer = r.srpt.answer }) x'
   pub second : Plays d y o.rival o.stray (call_of c) (record { lease = o'.rival; stray = o'.stray; answer = r.rival.answer }) y'
@@ -40,7 +40,7 @@ pub record Turns {D : Type 0} (d : Ghosts D) (x : Run Srpt) (y : Run D) (o : Lea
 
 -- The rounds, the newest first, led to the runs x and y, newly made with marks that the stray lease k does not have. The transcripts es and
 -- es' have what each run answered; the rounds have that down, and how many jobs were present; the leases are those that are out.
-pub record Led {D : Type 0} (d : Ghosts D) (k : Lease) (rounds : List Round) (x : Run Srpt) (y : Run D) (o : Leases) : Type 0 where
+pub record Led {D : Type 0} (d : Ghosts D) (k : Lease) (rounds : List Round) (x : Run Srpt ghosts) (y : Run D d) (o : Leases) : Type 0 where
   pub mark : ℕ
   pub mark' : ℕ
   pub es : List Event
@@ -63,7 +63,7 @@ pub record Led {D : Type 0} (d : Ghosts D) (k : Lease) (rounds : List Round) (x 
 abbrev pub Throughout : {D : Type 0} → Ghosts D → ℕ → ℕ → List C.Call → List Event → List Event → Type 0
 Throughout {D} d m m' cs es es' =
     (n : ℕ)
-    → (x : Run Srpt) × (y : Run D) × Chain ghosts m (drop n cs) (drop n es) x × Chain d m' (drop n cs) (drop n es') y
+    → (x : Run Srpt ghosts) × (y : Run D d) × Chain ghosts m (drop n cs) (drop n es) x × Chain d m' (drop n cs) (drop n es') y
     × Compared ghosts d m (drop n cs) (drop n es) (drop n es') x y
 
 -- After each call, every legal schedule of the whole list has at least as many jobs present as the rounds have down for the run over SRPT.
@@ -73,13 +73,13 @@ Least rounds es =
     → (n : ℕ) → slice_index (map (λ r. r.srpt.present) rounds) n ≤ occupancy (history (drop n es)) (entries_before n es t)
 
 -- The lease that is out, if there is one, is taken by done and by back.
-abbrev pub Takes : {D : Type 0} → Ghosts D → Run D → Option Lease → Type 0
+abbrev pub Takes : {D : Type 0} → (d : Ghosts D) → Run D d → Option Lease → Type 0
 Takes d x None = Unit {0}
 Takes d x (Some l) = done_rule (meaning d x) l ≡ Ok tt
 
 -- A whole contest: the rounds that were handed over, with their calls unaltered, became the rounds after; these calls were made in their
 -- order on both runs, which are now x and y; the theorem holds of them now and at every earlier point.
-pub record Contested {D : Type 0} (d : Ghosts D) (k : Lease) (before after : List Round) (x : Run Srpt) (y : Run D) (o : Leases) : Type 0 where
+pub record Contested {D : Type 0} (d : Ghosts D) (k : Lease) (before after : List Round) (x : Run Srpt ghosts) (y : Run D d) (o : Leases) : Type 0 where
   pub same : calls after ≡ calls before
   pub led : Led d k (reverse after) x y o
   pub compared : Compared ghosts d led.mark (calls (reverse after)) led.es led.es' x y

@@ -66,12 +66,12 @@ Carries a Free o = o ≡ None
 Carries a (Out j) o = o ≡ Some (record { mark = a.mark; tick = a.clock; job = j })
 
 -- The run x has the lease o out, and another mark than the stray lease k.
-pub record Ready {D : Type 0} (d : Ghosts D) (x : Run D) (o : Option Lease) (k : Lease) : Type 0 where
+pub record Ready {D : Type 0} (d : Ghosts D) (x : Run D d) (o : Option Lease) (k : Lease) : Type 0 where
   pub carries : Carries (meaning d x).accounts (meaning d x).accounts.lease o
   pub strange : k.mark ≡ (meaning d x).accounts.mark → ⊥
 
 -- The call c was made on the run x, which had the lease o out, with the stray lease k at hand; it left r and the run y.
-pub record Plays {D : Type 0} (d : Ghosts D) (x : Run D) (o : Option Lease) (k : Lease) (c : C.Call) (r : Played) (y : Run D) : Type 0 where
+pub record Plays {D : Type 0} (d : Ghosts D) (x : Run D d) (o : Option Lease) (k : Lease) (c : C.Call) (r : Played) (y : Run D d) : Type 0 where
   pub event : Event
   pub asks : Asks (meaning d x).accounts.mark o c event
   pub does : Step event (meaning d x) (meaning d y)

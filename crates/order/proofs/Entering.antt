@@ -44,16 +44,16 @@ largest_picks s h o j c t b e = (
 module _ {D : Type 0} (d : Ghosts D) (sound : (x : D) → Sound (d.present x) (d.choice x)) (m : ℕ)
     (row : D → List ℕ) (moves : (v : Move) (x y : D) → d.moves v x y → row y ≡ reordered v (row x)) where
   module _ (front : (x : D) → d.choice x ≡ first_of (row x)) where
-    smallest : (es : List Event) (r : Run D) → Course d m es r → Smallest (meaning d r)
+    smallest : (es : List Event) (r : Run D d) → Course d m es r → Smallest (meaning d r)
     smallest es r x j i e l =
         let q = lined d sound m row moves x in
         first-least (row (discipline_of r)) j i q.rising (sym (front (discipline_of r)) ∙ e)
         (present_in_row (row (discipline_of r)) (meaning d r).present (meaning d r).book.entered i q l)
 
-    pub by_earliest : {es : List Event} {r : Run D} → Course d m es r → Kept Earliest m (history es) (own_schedule es) (lease_out es) (meaning d r)
+    pub by_earliest : {es : List Event} {r : Run D d} → Course d m es r → Kept Earliest m (history es) (own_schedule es) (lease_out es) (meaning d r)
     by_earliest x = kept d sound m Earliest earliest_permitted (λ h o n. n) Smallest smallest smallest_picks x
 
-    pub finish_in_order : {es : List Event} {r : Run D} → Course d m es r
+    pub finish_in_order : {es : List Event} {r : Run D d} → Course d m es r
         → (i j : ℕ) → i < j → j < r.book.entered → (line_of r j).left ≡ 0 → ((line_of r i).left ≡ 0) × ((line_of r i).finish ≤ (line_of r j).finish)
     finish_in_order {es = es} {r = r} x i j l k e =
         let q = by_earliest x in
@@ -63,11 +63,11 @@ module _ {D : Type 0} (d : Ghosts D) (sound : (x : D) → Sound (d.present x) (d
         (a.remains ∙ f.0.1, omega (arith, f.1, a.finishes, b.finishes))
 
   module _ (end : (x : D) → d.choice x ≡ last_of (row x)) where
-    pub largest : (es : List Event) (r : Run D) → Course d m es r → Largest (meaning d r)
+    pub largest : (es : List Event) (r : Run D d) → Course d m es r → Largest (meaning d r)
     largest es r x j i e l =
         let q = lined d sound m row moves x in
         last_most (row (discipline_of r)) j i q.rising (sym (end (discipline_of r)) ∙ e)
         (present_in_row (row (discipline_of r)) (meaning d r).present (meaning d r).book.entered i q l)
 
-    pub by_latest : {es : List Event} {r : Run D} → Course d m es r → Kept Latest m (history es) (own_schedule es) (lease_out es) (meaning d r)
+    pub by_latest : {es : List Event} {r : Run D d} → Course d m es r → Kept Latest m (history es) (own_schedule es) (lease_out es) (meaning d r)
     by_latest x = kept d sound m Latest latest_permitted (λ h o n. n) Largest largest largest_picks x

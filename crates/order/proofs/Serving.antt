@@ -30,34 +30,34 @@ reordered (admitted n z) row = row ++ n ∷ []
 reordered (worked n l) row = leaves n l row
 
 module _ {D : Type 0} (d : Ghosts D) (sound : (x : D) → Sound (d.present x) (d.choice x)) (m : ℕ) where
-  pub reaches : {es : List Event} {r : Run D} → Course d m es r → Reaches m es (meaning d r)
+  pub reaches : {es : List Event} {r : Run D d} → Course d m es r → Reaches m es (meaning d r)
   reaches (made x r e c) = subst (λ (s : State). Reaches m [] s) (sym e) (H.made (subst (λ (s : State). Sound s.present s.choice) e (sound r.discipline)))
   reaches (called r' x p c) = H.more (reaches x) p (sound r'.discipline)
 
-  pub tied : {es : List Event} {r : Run D} → Course d m es r → Tied (meaning d r)
+  pub tied : {es : List Event} {r : Run D d} → Course d m es r → Tied (meaning d r)
   tied {es = es} {r = r} x = (always_lawful m es (meaning d r) (reaches x)).tied
 
   -- what holds at every point of a course of a discipline whose choice keeps a rule of service
   module _ (R : Rule) (permits : (h : History) (o : Schedule) (e : Entry) → R h o e → Permitted h o e) (rests : (h : History) (o : Schedule) → Nobody h o → R h o idle)
-      (C : State → Type 0) (chosen : (es : List Event) (r : Run D) → Course d m es r → C (meaning d r))
+      (C : State → Type 0) (chosen : (es : List Event) (r : Run D d) → Course d m es r → C (meaning d r))
       (picks : (s : State) (h : History) (o : Schedule) (j : ℕ) → C s → Tied s → Table s.present h o → s.choice ≡ Some j → R h o (job j)) where
-    pub kept : {es : List Event} {r : Run D} → Course d m es r → Kept R m (history es) (own_schedule es) (lease_out es) (meaning d r)
+    pub kept : {es : List Event} {r : Run D d} → Course d m es r → Kept R m (history es) (own_schedule es) (lease_out es) (meaning d r)
     kept (made x r e c) = subst (λ (s : State). Kept R m [] [] None s) (sym e) (made_kept R permits rests m C picks)
     kept (called {es = es} {e = e} {r = r} r' x p c) = step_kept R permits rests m C picks e es (meaning d r) (meaning d r') (tied x) (chosen es r x) (kept x) p
 
   -- the row of a discipline that keeps the order of entry
   module _ (row : D → List ℕ) (moves : (v : Move) (x y : D) → d.moves v x y → row y ≡ reordered v (row x)) where
-    abbrev InRow : Run D → Type 0
+    abbrev InRow : Run D d → Type 0
     InRow r = Lined (row (discipline_of r)) (meaning d r).present (meaning d r).book.entered
 
     abbrev At : List ℕ → State → Type 0
     At xs s = Lined xs s.present s.book.entered
 
-    same : (r r' : Run D) → InRow r → discipline_of r' ≡ discipline_of r → (meaning d r').book.entered ≡ (meaning d r).book.entered → InRow r'
+    same : (r r' : Run D d) → InRow r → discipline_of r' ≡ discipline_of r → (meaning d r').book.entered ≡ (meaning d r).book.entered → InRow r'
     same r r' q e f = subst (λ (n : ℕ). Lined (row (discipline_of r')) (meaning d r').present n) (sym f)
         (subst (λ (x : D). Lined (row x) (d.present x) (meaning d r).book.entered) (sym e) q)
 
-    step_lined : (e : Event) (r r' : Run D) → Tied (meaning d r) → InRow r → Step e (meaning d r) (meaning d r') → Conducts d e r r' → InRow r'
+    step_lined : (e : Event) (r r' : Run D d) → Tied (meaning d r) → InRow r → Step e (meaning d r) (meaning d r') → Conducts d e r r' → InRow r'
     step_lined (H.enter n z (Ok k)) r r' t q p c =
         let s = meaning d r in
         let a = enter_ok s n z k p.answers in
@@ -83,7 +83,7 @@ module _ {D : Type 0} (d : Ghosts D) (sound : (x : D) → Sound (d.present x) (d
     step_lined (H.pass (Ok u)) r r' t q p c = same r r' q c (ap (λ (s : State). s.book.entered) p.leaves)
     step_lined (H.pass (Err x)) r r' t q p c = same r r' q c (ap (λ (s : State). s.book.entered) p.leaves)
 
-    pub lined : {es : List Event} {r : Run D} → Course d m es r → InRow r
+    pub lined : {es : List Event} {r : Run D d} → Course d m es r → InRow r
     lined (made x r e c) =
         let empty = moves cleared x (discipline_of r) c in
         let none = ap (λ (s : State). s.present) e in

@@ -27,7 +27,7 @@ rounds_front q n l u xs p =
     ∙ ap (λ (b : Bool). cond b (queue (round_robin q) xs 0) (after_unit q n xs u)) (ne_eqb l 0 (λ e. omega arith))
 
 -- What a unit leaves of the leased job's work.
-unit_left : (x y : Run RoundRobin) (n : ℕ) (c : UnitOf n x y) → get_or (meaning ghosts y).present n 0 ≡ get_or (meaning ghosts x).present n 0 - 1
+unit_left : (x y : Run RoundRobin ghosts) (n : ℕ) (c : UnitOf n x y) → get_or (meaning ghosts y).present n 0 ≡ get_or (meaning ghosts x).present n 0 - 1
 unit_left x y n c =
     let s = meaning ghosts x in
     let j = c.lease.job in
@@ -37,7 +37,7 @@ unit_left x y n c =
     subst (λ i. get_or (meaning ghosts y).present i 0 ≡ get_or s.present i 0 - 1) c.on
     (ap (λ (t : State). get_or t.present j 0) c.calls.does.leaves ∙ get_or-set_same s.present j (get_or s.present j 0 - 1) 0 low)
 
-unit-queue : (x y : Run RoundRobin) (n q u : ℕ) (xs : List ℕ) → UnitOf n x y → queue_of x ≡ queue (round_robin q) (n ∷ xs) u → queue_of y ≡ after_unit q n xs u
+unit-queue : (x y : Run RoundRobin ghosts) (n q u : ℕ) (xs : List ℕ) → UnitOf n x y → queue_of x ≡ queue (round_robin q) (n ∷ xs) u → queue_of y ≡ after_unit q n xs u
 unit-queue x y n q u xs c e =
     let l = get_or (meaning ghosts x).present n 0 - 1 in
     let moves : queue_of y ≡ moved (worked n l) (queue_of x)
@@ -45,8 +45,8 @@ unit-queue x y n q u xs c e =
     moves ∙ ap (moved (worked n l)) e ∙ rounds_front q n l u xs (omega (arith, unit_left x y n c, c.unfinished))
 
 -- Within its turn the job stays at the front.
-served-queue : (q n : ℕ) (xs : List ℕ) (r : Run RoundRobin) → queue_of r ≡ queue (round_robin q) (n ∷ xs) 0
-    → {u : ℕ} {ks : List ℕ} {x : Run RoundRobin} → Served n r u ks x → u < q → queue_of x ≡ queue (round_robin q) (n ∷ (xs ++ ks)) u
+served-queue : (q n : ℕ) (xs : List ℕ) (r : Run RoundRobin ghosts) → queue_of r ≡ queue (round_robin q) (n ∷ xs) 0
+    → {u : ℕ} {ks : List ℕ} {x : Run RoundRobin ghosts} → Served n r u ks x → u < q → queue_of x ≡ queue (round_robin q) (n ∷ (xs ++ ks)) u
 served-queue q n xs r e T.none l = e ∙ ap (λ (ys : List ℕ). queue (round_robin q) (n ∷ ys) 0) (sym (append-nil xs))
 served-queue q n xs r e (T.entered {u = u} {ks = ks} y w z k s c) l =
     c.conducts.0 ∙ ap (moved (admitted k z)) (served-queue q n xs r e s l) ∙ ap (λ (ys : List ℕ). queue (round_robin q) (n ∷ ys) u) (append_assoc xs ks (k ∷ []))

@@ -4,6 +4,7 @@ use Rattle.queues.specs.declared.fcfs.Fcfs.{Fcfs}
 use Rattle.queues.specs.declared.lcfs.Lcfs.{Lcfs}
 use Rattle.queues.specs.contracts.fcfs_calls.FcfsDiscipline.TheImpl.{ghosts as fcfs}
 use Rattle.queues.specs.contracts.lcfs_calls.LcfsDiscipline.TheImpl.{ghosts as lcfs}
+use Rattle.discipline.specs.declared.Discipline.{Ghosts}
 use Rattle.run.specs.declared.run.Run.{Run}
 use Rattle.run.specs.declared.line.Line.{Line}
 use Rattle.run.specs.Lines.{unused}
@@ -15,20 +16,20 @@ use Rattle.schedule.specs.Orders.{Earliest, Latest}
 use Rattle.contest.specs.Transcripts.{history, own_schedule}
 
 -- The line of job j.
-abbrev pub line_of : {D : Type 0} → Run D → ℕ → Line
+abbrev pub line_of : {D : Type 0} {d : Ghosts D} → Run D d → ℕ → Line
 line_of r j = slice_index_or r.book.lines j unused
 
 -- Under FCFS the run's own schedule serves the job that entered earliest; so once a job is finished, every job that entered before it is
 -- finished too, and finished no later.
 abbrev pub FcfsInOrder : Type 0
 FcfsInOrder =
-    (m : ℕ) (es : List Event) (r : Run Fcfs) → Course fcfs m es r
+    (m : ℕ) (es : List Event) (r : Run Fcfs fcfs) → Course fcfs m es r
     → Follows Earliest (history es) (own_schedule es)
     × ((i j : ℕ) → i < j → j < r.book.entered → (line_of r j).left ≡ 0 → ((line_of r i).left ≡ 0) × ((line_of r i).finish ≤ (line_of r j).finish))
 
 -- Under LCFS the run's own schedule serves the job that entered latest; and at every point the choice has no later-admitted job present.
 abbrev pub LcfsServesLatest : Type 0
 LcfsServesLatest =
-    (m : ℕ) (es : List Event) (r : Run Lcfs) → Course lcfs m es r
+    (m : ℕ) (es : List Event) (r : Run Lcfs lcfs) → Course lcfs m es r
     → Follows Latest (history es) (own_schedule es)
     × ((j i : ℕ) → (meaning lcfs r).choice ≡ Some j → 0 < slice_index (meaning lcfs r).present i → i ≤ j)

@@ -6,15 +6,15 @@ pub returns-in-Ok : goal.returns-in-Ok
 returns-in-Ok g c =
     let a = c.args in
     let way = c.in-Own-Some in
-    plays_accepted g.D.Discipline a.run.now c.hand_in.new.run a.lease a.stray way.own_val a.end a.hand tt
-    (handed_own _ a.hand a.lease way.own_val way.is-0 way.is-1) c.in-Ok.ensures.does
+    plays_accepted g.D.Discipline a.run.now c.hand_in.new.run a.lease a.stray way.own a.end a.hand tt
+    (handed_own _ a.hand a.lease way.own way.is-0 way.is-1) c.in-Ok.ensures.does
 
 pub returns-in-Err : goal.returns-in-Err
 returns-in-Err g c =
     let a = c.args in
     let way = c.in-Own-Some in
-    plays_refused g.D.Discipline a.run.now c.hand_in.new.run a.lease a.stray way.own_val a.end a.hand c.in-Err.cause c.in-Err.own_val _ _
-    (handed_own _ a.hand a.lease way.own_val way.is-0 way.is-1) c.in-Err.ensures.does
+    plays_refused g.D.Discipline a.run.now c.hand_in.new.run a.lease a.stray way.own a.end a.hand c.in-Err.cause c.in-Err.own _ _
+    (handed_own _ a.hand a.lease way.own way.is-0 way.is-1) c.in-Err.ensures.does
     (ap Some c.in-Err.ensures.unspent ∙ sym way.is-1) refl
 
 pub returns-in-Own-None : goal.returns-in-Own-None

@@ -25,13 +25,9 @@ invariant_of-self c =
     let low : n < length d.left = omega arith in
     let good = sym c.if-not-is_size.ensures in
     let more = size_low v good in
-    let e = c.push.ensures in (
-      length-set d.left n v ∙ l,
-      (
-        set_fits d.left n v low d.fits (size_high v good),
-        (
-          ap length e ∙ length_push row n ∙ ap (λ m. m + 1) d.many ∙ sym (count_more d.left n v low z more),
-          (subst (λ (xs : List ℕ). Once xs (set d.left n v)) (sym e) (once_more d.left n v low row d.once z more), tt),
-        ),
-      ),
-    )
+    let e = c.push.ensures in record {
+      long = length-set d.left n v ∙ l;
+      fits = set_fits d.left n v low d.fits (size_high v good);
+      many = ap length e ∙ length_push row n ∙ ap (λ m. m + 1) d.many ∙ sym (count_more d.left n v low z more);
+      once = subst (λ (xs : List ℕ). Once xs (set d.left n v)) (sym e) (once_more d.left n v low row d.once z more);
+    }

@@ -8,4 +8,9 @@ invariant_of-self c =
     let r = row_of c.clear.new.self in
     let e = c.no_work-self.ensures in
     let f = c.clear.ensures in
-    (none_long l r e f, (none_fits l r e f, (none_many l r e f, (none_once l r e f, tt))))
+    record {
+      long = none_long l r e f;
+      fits = none_fits l r e f;
+      many = none_many l r e f;
+      once = none_once l r e f;
+    }

@@ -8,4 +8,9 @@ invariant_of-self c =
     let d = c.args.self.now in
     let row = row_of d.row in
     let e = c.first_to_end.ensures in
-    (d.long, (d.fits, (ap length e ∙ length-turned row ∙ d.many, ((λ k. ap (λ (xs : List ℕ). times k xs) e ∙ times-turned row k ∙ d.once k), tt))))
+    record {
+      long = d.long;
+      fits = d.fits;
+      many = ap length e ∙ length-turned row ∙ d.many;
+      once = (λ k. ap (λ (xs : List ℕ). times k xs) e ∙ times-turned row k ∙ d.once k);
+    }

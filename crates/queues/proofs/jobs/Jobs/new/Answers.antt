@@ -8,4 +8,9 @@ invariant_of-result c =
     let r = row_of c.new.result in
     let e = c.no_work.ensures in
     let f = c.new.ensures in
-    (none_long l r e f, (none_fits l r e f, (none_many l r e f, (none_once l r e f, tt))))
+    record {
+      long = none_long l r e f;
+      fits = none_fits l r e f;
+      many = none_many l r e f;
+      once = none_once l r e f;
+    }

@@ -14,13 +14,9 @@ invariant_of-self c =
     let low : n < length d.left = omega arith in
     let some : 0 < get_or d.left n 0 = omega arith in
     let small : v ≤ 10000 = omega (arith, d.fits n) in
-    let e = c.leave.ensures in (
-      length-set d.left n v ∙ l,
-      (
-        set_fits d.left n v low d.fits small,
-        (
-          ap length e ∙ leaves_many d.left n v low row d.once d.many some,
-          (subst (λ (xs : List ℕ). Once xs (set d.left n v)) (sym e) (leaves_once d.left n v low row d.once some), tt),
-        ),
-      ),
-    )
+    let e = c.leave.ensures in record {
+      long = length-set d.left n v ∙ l;
+      fits = set_fits d.left n v low d.fits small;
+      many = ap length e ∙ leaves_many d.left n v low row d.once d.many some;
+      once = subst (λ (xs : List ℕ). Once xs (set d.left n v)) (sym e) (leaves_once d.left n v low row d.once some);
+    }

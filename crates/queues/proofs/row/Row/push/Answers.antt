@@ -7,7 +7,11 @@ use Rattle.queues.proofs.row.Row.push.Goals as goal
 pub invariant_of-self : goal.invariant_of-self
 invariant_of-self c =
     let r = c.args.self.now in
-    (length-set r.items c.place-at.result c.args.number ∙ r.long, (r.within, (omega (arith, c.requires, row_len r), tt)))
+    record {
+      long = length-set r.items c.place-at.result c.args.number ∙ r.long;
+      within = r.within;
+      few = omega (arith, c.requires, row_len r);
+    }
 
 pub returns : goal.returns
 returns c =
