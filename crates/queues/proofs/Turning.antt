@@ -1,6 +1,6 @@
 -- The front of a row sent to its end, and a full turn of round robin.
 use Rattle.std.proofs.Common.{◌≡◌, ℕ, ◌+◌, ◌<◌, cond, eqb, List, [], ◌∷◌, ◌++◌, length, take, drop, sym, refl, ap, ◌∙◌, arith}
-use Rattle.std.specs.List.{AllByRecursion as All}
+use Rattle.std.specs.List.{AllByRecursion}
 use Rattle.std.proofs.lemmas.Bool.{eq-eqb, ne_eqb}
 use Rattle.std.proofs.lemmas.List.{append_assoc, append-nil, length_push}
 use Rattle.discipline.specs.Meaning.{Move, cleared, admitted, worked}
@@ -29,7 +29,7 @@ module _ (q n l : ℕ) (behind : List ℕ) (t : ℕ) (some : 0 < l) where
   unit-before : (t + 1 ≡ q → ⊥) → rounds q n l (n ∷ behind) t ≡ queue (round_robin q) (n ∷ behind) (t + 1)
   unit-before e = unit ∙ ap (λ b. cond b (queue (round_robin q) (behind ++ n ∷ []) 0) (queue (round_robin q) (n ∷ behind) (t + 1))) (ne_eqb (t + 1) q e)
 
-pub full_turn : (q n l : ℕ) (behind : List ℕ) (t : ℕ) (ms : List Move) → All (WithinTurn n) ms → t + (units_among ms + 1) ≡ q → 0 < l
+pub full_turn : (q n l : ℕ) (behind : List ℕ) (t : ℕ) (ms : List Move) → AllByRecursion (WithinTurn n) ms → t + (units_among ms + 1) ≡ q → 0 < l
     → after_moves (ms ++ worked n l ∷ []) (queue (round_robin q) (n ∷ behind) t) ≡ queue (round_robin q) ((behind ++ admitted_by ms) ++ n ∷ []) 0
 full_turn q n l behind t [] h e some =
     last_unit q n l behind t some (omega arith) ∙ ap (λ (xs : List ℕ). queue (round_robin q) (xs ++ n ∷ []) 0) (sym (append-nil behind))

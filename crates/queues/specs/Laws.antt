@@ -1,6 +1,6 @@
 -- What the laws of the row disciplines say.
 use Rattle.std.specs.Prelude.{◌≡◌, ℕ, ◌+◌, ◌<◌, List, [], ◌∷◌, ◌++◌}
-use Rattle.std.specs.List.{AllByRecursion as All}
+use Rattle.std.specs.List.{AllByRecursion}
 use Rattle.discipline.specs.Meaning.{Move, cleared, admitted, worked}
 use Rattle.queues.specs.Queues.{Queue, queue, round_robin, moved}
 use Rattle.queues.specs.Views.{fcfs_queue, lcfs_queue, round_queue}
@@ -42,6 +42,6 @@ admitted_by (worked j l ∷ ms) = admitted_by ms
 -- those who were behind it, and those admitted meanwhile. The q-th unit is the last of the moves.
 abbrev pub FullTurnGoesBehind : Type 0
 FullTurnGoesBehind =
-    (q n l : ℕ) (behind : List ℕ) (ms : List Move) → All (WithinTurn n) ms → units_among ms + 1 ≡ q → 0 < l
+    (q n l : ℕ) (behind : List ℕ) (ms : List Move) → AllByRecursion (WithinTurn n) ms → units_among ms + 1 ≡ q → 0 < l
     → after_moves (ms ++ worked n l ∷ []) (queue (round_robin q) (n ∷ behind) 0)
     ≡ queue (round_robin q) ((behind ++ admitted_by ms) ++ n ∷ []) 0

@@ -1,5 +1,5 @@
 // The calls of a run.
-ghost use Rattle.std.specs.Prelude.{◌≡◌, ◌-◌, IfOk, IfErr, Ok, OnOk, slice_index};
+ghost use Rattle.std.specs.Prelude.{◌≡◌, ◌-◌, ◌<◌, IfOk, IfErr, Ok, OnOk, slice_index};
 ghost use Rattle.discipline.specs.Meaning.{cleared, admitted, worked};
 ghost use Rattle.run.specs.States.{Tied};
 ghost use Rattle.run.specs.Steps.{Enters, Takes, Dones, Backs, Passes, enter_rule, done_rule, made_with};
@@ -79,6 +79,7 @@ impl<D: Discipline> Run<D> {
     pub fn take(&mut self) -> Result<Lease, Refusal>
         ensures does { Takes (meaning D.Discipline self.old) result (meaning D.Discipline self.new) }
         ensures ours { IfOk result (λ lease. done_rule (meaning D.Discipline self.new) lease ≡ Ok tt) }
+        ensures ends { IfOk result (λ lease. lease.tick < 16777215) }
         ensures ties { StaysTied D.Discipline self.old self.new }
         ensures stays { Untouched self.old self.new }
     {

@@ -1,5 +1,5 @@
 // The lease: the right to end one tick of a run. It is handed in, once, to `done` or to `back`.
-ghost use Rattle.std.specs.Prelude.{◌≡◌};
+ghost use Rattle.std.specs.Prelude.{◌≡◌, ◌≤◌};
 
 // Only a run gives one out, and only handing it in spends it.
 pub struct Lease {
@@ -8,10 +8,10 @@ pub struct Lease {
     pub(crate) job: u32,
 }
 
-// A lease may not be let go: nobody can show what dropping one asks.
+// A lease may not be let go: a run gives one only for a tick below the last, and dropping one asks for a tick that is not.
 impl Drop for Lease {
     fn drop(self)
-        requires { ⊥ }
+        requires { 16777215 ≤ self.tick }
     {
         let Lease {
             mark: _,

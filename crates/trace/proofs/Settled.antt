@@ -1,6 +1,6 @@
 -- A line or a trace has one verdict.
 use Rattle.std.proofs.Common.{◌≡◌, ℕ, ◌+◌, ◌<◌, List, [], ◌∷◌, ◌++◌, length, drop, Some, None, Option, sym, ap, ◌∙◌, subst, ⊎_elim, append_assoc, append-nil, arith}
-use Rattle.std.specs.List.{AllByRecursion as All}
+use Rattle.std.specs.List.{AllByRecursion}
 use Rattle.std.proofs.lemmas.List.{length-append, length-drop}
 use Rattle.refusal.specs.declared.Refusal.{Refusal}
 use Rattle.refusal.specs.Causes.{number_of}
@@ -44,7 +44,7 @@ line_by_line = record {
 }
 
 -- Lines that keep every rule are formed ..
-formed : (ps ls : List Line) → Keep ps ls → All Formed ls
+formed : (ps ls : List Line) → Keep ps ls → AllByRecursion Formed ls
 formed ps [] k = tt
 formed ps (l ∷ ls) k = (k.0, formed (ps ++ l ∷ []) ls k.2)
 

@@ -1,6 +1,6 @@
 -- What a line or a list of lines spells is spelled by no other.
 use Rattle.std.proofs.Common.{◌≡◌, ℕ, ◌<◌, ◌⊎◌, List, [], ◌∷◌, ◌++◌, codes, decimal, sym, refl, ap, ◌∙◌, inl, inr, ⊎_elim, append_assoc, append-nil, arith}
-use Rattle.std.specs.List.{AllByRecursion as All}
+use Rattle.std.specs.List.{AllByRecursion}
 use Rattle.std.proofs.lemmas.Fmt.{decimal_injective}
 use Rattle.std.proofs.ByRecursion.{All-append}
 use Rattle.trace.specs.Lines.{Lacks, Line, job, lost, Formed, fields, spelled, text, OneLine, OneList}
@@ -50,7 +50,7 @@ pub text_more : (l : Line) (ls : List Line) (r : List ℕ) → text (l ∷ ls) +
 text_more l ls r = append_assoc (spelled l ++ 10 ∷ []) (text ls) r ∙ append_assoc (spelled l) (10 ∷ []) (text ls ++ r)
 
 -- Where two lists of lines begin the same bytes, one of them goes on from the other.
-pub fronts : (ks ls : List Line) (r s : List ℕ) → All Formed ks → All Formed ls → text ks ++ r ≡ text ls ++ s
+pub fronts : (ks ls : List Line) (r s : List ℕ) → AllByRecursion Formed ks → AllByRecursion Formed ls → text ks ++ r ≡ text ls ++ s
     → ((more : List Line) × (ls ≡ ks ++ more) × (r ≡ text more ++ s)) ⊎ ((more : List Line) × (ks ≡ ls ++ more) × (s ≡ text more ++ r))
 fronts [] ls r s f g e = inl (ls, refl, e)
 fronts (k ∷ ks) [] r s f g e = inr (k ∷ ks, refl, sym e)

@@ -1,7 +1,7 @@
 -- A line of a trace as a value, the bytes that spell it, and the place where it stands.
 use Rattle.std.specs.Prelude.{◌≡◌, ℕ, ◌<◌, ◌≤◌, List, [], ◌∷◌, ◌++◌, length, drop, codes, decimal, ◌≢◌, slice_index}
 use Rattle.std.specs.Str.Parse.{AllDigits, digits_value}
-use Rattle.std.specs.List.{flat_map, AllByRecursion as All}
+use Rattle.std.specs.List.{flat_map, AllByRecursion}
 
 -- A line: a job with its tick, its size and the bytes of its name, or a tick that is lost.
 pub data Line : Type 0 where
@@ -22,7 +22,7 @@ ByDigits = (bs : List ℕ) → ((n : ℕ) → Spells bs n → ShortNumeral bs ×
 
 -- No byte is b.
 abbrev pub Lacks : ℕ → List ℕ → Type 0
-Lacks b bs = All (λ x. x ≢ b) bs
+Lacks b bs = AllByRecursion (λ x. x ≢ b) bs
 
 -- A word is one or more bytes, none of them a space (32) or an LF (10).
 abbrev pub Word : List ℕ → Type 0
@@ -56,4 +56,4 @@ OneLine = (trace : List ℕ) (p : ℕ) (k l : Line) → Stands trace p k → Sta
 
 -- At most one list of lines spells a trace.
 abbrev pub OneList : Type 0
-OneList = (ks ls : List Line) → All Formed ks → All Formed ls → text ks ≡ text ls → ks ≡ ls
+OneList = (ks ls : List Line) → AllByRecursion Formed ks → AllByRecursion Formed ls → text ks ≡ text ls → ks ≡ ls
