@@ -11,8 +11,11 @@ trap 'rm -rf "$work"' EXIT
 # A repository of the libraries alone, without their edits and tests, and one program.
 mkdir -p "$work/crates/misuse/src"
 for crate in refusal job discipline run; do
-    cp -r "$top/crates/$crate" "$work/crates/$crate"
-    rm -rf "$work/crates/$crate/must-fail" "$work/crates/$crate/src/tests.rt"
+    mkdir -p "$work/crates/$crate"
+    for part in src specs proofs; do
+        [ ! -d "$top/crates/$crate/$part" ] || cp -r "$top/crates/$crate/$part" "$work/crates/$crate/$part"
+    done
+    rm -rf "$work/crates/$crate/src/tests.rt"
     sed -i '/^#\[cfg(test)\]$/d; /^mod tests;$/d' "$work/crates/$crate/src/lib.rt"
 done
 {
@@ -23,7 +26,8 @@ done
 # check BODY: the answer of the check to a program in which `after_take` has that body.
 check() {
     cat >"$work/crates/misuse/src/main.rt" <<RATTLE
-use discipline::FcfsDiscipline;
+#![tactic(auto)]
+
 use discipline::fcfs::Fcfs;
 use run::lease::Lease;
 use run::run::Run;
@@ -41,7 +45,7 @@ fn after_take(run: &mut Run<Fcfs>, lease: Lease) -> Option<Lease> {
 
 fn main() {}
 RATTLE
-    (cd "$work" && rt check misuse) >"$work/log" 2>&1
+    (cd "$work/crates/misuse" && rt check) >"$work/log" 2>&1
 }
 
 # accepted LABEL BODY
