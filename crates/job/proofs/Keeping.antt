@@ -1,5 +1,5 @@
 -- A name is spelled by the bytes that it was made of.
-use Rattle.std.proofs.Common.{◌≡◌, ℕ, ◌-◌, ◌≤◌, min, Bool, true, ◌&&◌, leb, List, ◌++◌, length, take, replicate, ap, ◌∙◌, arith}
+use Rattle.std.proofs.Common.{◌≡◌, ℕ, ◌-◌, ◌≤◌, min, Bool, true, ◌&&◌, leb, List, length, replicate, arith}
 use Rattle.std.proofs.lemmas.List.{take_at}
 use Rattle.std.proofs.lemmas.Bool.Decides.{nat_tests}
 use Rattle.job.specs.Rules.{name_bytes, good_name}

@@ -1,17 +1,16 @@
 -- First come first served and last come first served, over whole runs.
-use Rattle.std.proofs.Common.{◌≡◌, ℕ, ◌+◌, ◌-◌, ◌<◌, ◌≤◌, List, length, get_or, Some, None, Option, sym, refl, ap, ◌∙◌, subst, arith}
+use Rattle.std.proofs.Common.{◌≡◌, ℕ, ◌<◌, ◌≤◌, List, get_or, Some, sym, ◌∙◌, arith}
 use Rattle.discipline.specs.declared.Discipline.{Ghosts}
-use Rattle.discipline.specs.Meaning.{Move, cleared, admitted, worked, Sound}
+use Rattle.discipline.specs.Meaning.{Move, Sound}
 use Rattle.queues.specs.Rows.{first_of, last_of}
 use Rattle.run.specs.declared.run.Run.{Run}
-use Rattle.run.specs.Lines.{unused}
 use Rattle.run.specs.States.{State, Tied}
 use Rattle.run.specs.Runs.{meaning, discipline_of}
 use Rattle.run.specs.Histories.{Event}
 use Rattle.run.specs.Courses.{Course}
 use Rattle.run.proofs.Ended.{chosen_present}
 use Rattle.schedule.specs.Histories.{History}
-use Rattle.schedule.specs.Schedules.{Schedule, Entry, job, idle, Follows}
+use Rattle.schedule.specs.Schedules.{Schedule, job}
 use Rattle.schedule.specs.Orders.{Earliest, Latest}
 use Rattle.schedule.proofs.Orders.{earliest_permitted, latest_permitted, first_in_first_out_lem}
 use Rattle.contest.specs.Transcripts.{history, own_schedule, lease_out}

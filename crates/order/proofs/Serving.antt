@@ -1,6 +1,5 @@
 -- Runs over a discipline that keeps the jobs in a row in the order of entry, and whom they serve.
-use Rattle.std.proofs.Common.{◌≡◌, ℕ, zero, suc, ◌+◌, ◌-◌, ◌<◌, ◌≤◌, List, [], ◌∷◌, ◌++◌, length, get_or, set, replicate, Some, None, Ok, Err, Option, sym, refl, ap, ◌∙◌, subst, arith}
-use Rattle.job.specs.Rules.{good_size}
+use Rattle.std.proofs.Common.{◌≡◌, ℕ, ◌-◌, List, [], ◌∷◌, ◌++◌, get_or, Some, None, Ok, Err, sym, refl, ap, ◌∙◌, subst, arith}
 use Rattle.job.proofs.Sizes.{size_low}
 use Rattle.discipline.specs.declared.Discipline.{Ghosts}
 use Rattle.discipline.specs.Meaning.{Move, cleared, admitted, worked, Sound}
@@ -9,11 +8,10 @@ use Rattle.queues.specs.Admitted.{none_once}
 use Rattle.run.specs.declared.run.Run.{Run}
 use Rattle.run.specs.States.{State, Tied}
 use Rattle.run.specs.Runs.{meaning, discipline_of}
-use Rattle.run.specs.Steps.{made_with}
 use Rattle.run.specs.Histories as H
 use Rattle.run.specs.Histories.{Event, Step, Reaches}
 use Rattle.run.specs.Courses.{Course, Conducts, made, called}
-use Rattle.run.proofs.Ended.{chosen_present, present_below}
+use Rattle.run.proofs.Ended.{present_below}
 use Rattle.run.proofs.Accepting.{enter_ok, done_ok, next_empty}
 use Rattle.run.proofs.Reached.{always_lawful}
 use Rattle.schedule.specs.Histories.{History}

@@ -1,5 +1,5 @@
 -- A full turn under round robin.
-use Rattle.std.proofs.Common.{◌≡◌, ℕ, ◌+◌, ◌-◌, ◌<◌, ◌≤◌, Bool, true, false, cond, eqb, List, [], ◌∷◌, ◌++◌, length, get_or, set, sym, refl, ap, ◌∙◌, subst, append_assoc, arith}
+use Rattle.std.proofs.Common.{◌≡◌, ℕ, ◌+◌, ◌-◌, ◌<◌, Bool, cond, eqb, List, [], ◌∷◌, ◌++◌, length, get_or, sym, refl, ap, ◌∙◌, subst, append_assoc, arith}
 use Rattle.std.proofs.lemmas.List.{append-nil, get_or-set_same}
 use Rattle.std.proofs.lemmas.Bool.{eq-eqb, ne_eqb}
 use Rattle.queues.specs.declared.round_robin.RoundRobin.{RoundRobin}
@@ -9,7 +9,7 @@ use Rattle.queues.specs.Rows.{leaves}
 use Rattle.queues.specs.Queues.{Queue, queue, round_robin, turned, rounds, moved}
 use Rattle.run.specs.declared.run.Run.{Run}
 use Rattle.run.specs.States.{State}
-use Rattle.run.specs.Runs.{meaning, discipline_of}
+use Rattle.run.specs.Runs.{meaning}
 use Rattle.run.proofs.Ended.{present_below}
 use Rattle.run.proofs.Accepting.{done_ok}
 use Rattle.queues.specs.Views.{round_queue}

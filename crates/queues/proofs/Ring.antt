@@ -1,7 +1,7 @@
 -- A list gone round from a place on: what stands where, and what one write and one step change.
-use Rattle.std.proofs.Common.{◌≡◌, ℕ, zero, suc, ◌+◌, ◌-◌, ◌<◌, ◌≤◌, Bool, true, false, cond, ltb, ◌≢◌, List, [], ◌∷◌, ◌++◌, length, get_or, take, drop, set, sym, refl, ap, ◌∙◌, subst, ⊎_elim, arith}
+use Rattle.std.proofs.Common.{◌≡◌, ℕ, zero, suc, ◌+◌, ◌-◌, ◌<◌, ◌≤◌, ltb, List, [], ◌∷◌, ◌++◌, length, get_or, take, drop, set, sym, refl, ap, ◌∙◌, ⊎_elim, arith}
 use Rattle.std.proofs.lemmas.Bool.{cases_lt, cond-true, cond-false, lt-ltb, le-ltb}
-use Rattle.std.proofs.lemmas.List.{append_assoc, append-nil, length-append, length-drop, length-take-le, length-set, get_or_append_left, get_or-append_right, get_or-drop, get_or-take, drop-set-add, drop-set-lt, take-set-le, set-append_left, set-append_right, drop_more, take_more, drop_all, take_all, take-append-le, take_more_set}
+use Rattle.std.proofs.lemmas.List.{append_assoc, append-nil, length-append, length-drop, length-take-le, get_or_append_left, get_or-append_right, get_or-drop, get_or-take, drop-set-add, drop-set-lt, take-set-le, set-append_left, set-append_right, drop_more, take_more, drop_all, take_all, take-append-le, take_more_set}
 use Rattle.queues.specs.declared.row.Row.{Row}
 use Rattle.queues.specs.Rows.{row_of, around, place_of}
 

@@ -1,9 +1,9 @@
 -- What an accepted call says of the run, and which answers a tied run gives.
-use Rattle.std.proofs.Common.{◌≡◌, ℕ, ◌-◌, ◌<◌, ◌≤◌, Bool, true, false, cond, ◌&&◌, eqb, ltb, leb, List, length, get_or, Some, None, Ok, Err, Option, Result, sym, refl, ap, ◌∙◌, subst, arith}
+use Rattle.std.proofs.Common.{◌≡◌, ℕ, ◌-◌, ◌<◌, Bool, true, false, cond, ◌&&◌, eqb, ltb, leb, List, get_or, Some, None, Ok, Err, Option, Result, sym, refl, ap, ◌∙◌, subst, arith}
 use Rattle.std.proofs.lemmas.Bool.Decides.{nat_tests}
 use Rattle.std.proofs.lemmas.Bool.{ltb-true, eqb-true}
 use Rattle.refusal.specs.declared.Refusal.{Refusal}
-use Rattle.refusal.specs.declared.Refusal.TheVariants.{Size, Name, LeaseOut, BookFull, ClockEnd, Nobody, Somebody, NotTheLease, OutOfRange, Held, NotHeld}
+use Rattle.refusal.specs.declared.Refusal.TheVariants.{Size, Name, LeaseOut, BookFull, ClockEnd, Nobody, Somebody, NotTheLease, OutOfRange, NotHeld}
 use Rattle.refusal.specs.Answers.{provided, and_then}
 use Rattle.refusal.proofs.Accepted.{ok_not_err, provided_ok, and_then_ok}
 use Rattle.job.specs.declared.name.Name.{Name as JobName}
@@ -14,7 +14,6 @@ use Rattle.run.specs.declared.accounts.Accounts.{Accounts}
 use Rattle.run.specs.declared.accounts.LeaseState.{LeaseState}
 use Rattle.run.specs.declared.accounts.LeaseState.TheVariants.{Free, Out}
 use Rattle.run.specs.declared.lease.Lease.{Lease}
-use Rattle.run.specs.Lines.{lefts, unused}
 use Rattle.run.specs.States.{State, Tied, Leased}
 use Rattle.run.specs.Steps.{is_free, is_out_on, is_the_lease, before_end, enter_rule, enter_answer, lease_on, take_answer, giving_back, hand_rule, done_rule, done_answer, pass_answer}
 use Rattle.run.proofs.Keeping.{lefts_at}

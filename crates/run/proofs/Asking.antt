@@ -1,5 +1,5 @@
 -- The line of a job that entered, as a question reads it off the book.
-use Rattle.std.proofs.Common.{◌≡◌, ℕ, ◌-◌, ◌<◌, ◌≤◌, List, [], length, get_or, take, sym, ◌∙◌, subst, arith}
+use Rattle.std.proofs.Common.{◌≡◌, ℕ, ◌-◌, ◌<◌, ◌≤◌, [], length, get_or, take, sym, subst, arith}
 use Rattle.std.proofs.lemmas.List.{get_or_default, get_or-take, length-take-le}
 use Rattle.run.specs.declared.book.Book.{Book}
 use Rattle.run.specs.declared.line.Line.{Line}

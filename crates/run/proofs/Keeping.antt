@@ -5,7 +5,7 @@ use Rattle.std.proofs.lemmas.Bool.{cases_lt, cases_eq, ltb-true, ltb-false, lt-l
 use Rattle.std.proofs.lemmas.List.{get_or_past, get_or-map, length-map, map-set, get_or-replicate, length-replicate, get_or-set_same, get_or-set_other, set_past}
 use Rattle.job.specs.declared.name.Name.{Name}
 use Rattle.job.specs.Rules.{good_size, good_name}
-use Rattle.job.specs.Names.{name_of, spelled}
+use Rattle.job.specs.Names.{spelled}
 use Rattle.run.specs.declared.line.Line.{Line}
 use Rattle.run.specs.declared.book.Book.{Book}
 use Rattle.run.specs.Lines.{lefts, unused, new_line, worked_line}

@@ -1,10 +1,10 @@
 -- What holds after every list of calls, under every discipline: the tie, the clock and the unfinished work.
-use Rattle.std.proofs.Common.{◌≡◌, ℕ, ◌+◌, ◌-◌, ◌<◌, ◌≤◌, List, [], ◌∷◌, length, get_or, Ok, Err, Option, sym, refl, ap, ◌∙◌, arith}
+use Rattle.std.proofs.Common.{◌≡◌, ℕ, ◌+◌, ◌<◌, List, [], ◌∷◌, length, get_or, Ok, Err, Option, sym, refl, ap, ◌∙◌, arith}
 use Rattle.std.proofs.lemmas.List.{length-map}
 use Rattle.std.proofs.lemmas.List.Sums.{sum_by-set}
 use Rattle.job.specs.Names.{name_of}
 use Rattle.run.specs.declared.line.Line.{Line}
-use Rattle.run.specs.Lines.{lefts, unused, new_line, worked_line}
+use Rattle.run.specs.Lines.{unused, new_line, worked_line}
 use Rattle.run.specs.States.{State, Tied}
 use Rattle.run.specs.Steps.{enter_after, done_after}
 use Rattle.run.specs.Questions.{unfinished_work}

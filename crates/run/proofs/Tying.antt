@@ -1,8 +1,7 @@
 -- Every call keeps a run tied: the jobs present stay the lines with left above 0.
-use Rattle.std.proofs.Common.{◌≡◌, ℕ, ◌+◌, ◌-◌, ◌<◌, ◌≤◌, true, ◌≢◌, List, length, get_or, set, replicate, Some, None, Ok, Err, Option, sym, refl, ap, ◌∙◌, subst, ⊎_elim, arith}
+use Rattle.std.proofs.Common.{◌≡◌, ℕ, ◌-◌, ◌<◌, ◌≤◌, true, ◌≢◌, List, get_or, set, replicate, Some, None, Ok, Err, Option, sym, refl, ap, ◌∙◌, subst, arith}
 use lib.LanesLaws.{map-replicate}
-use Rattle.std.proofs.lemmas.List.{map-set, get_or-set_other, get_or-replicate, get_or_past, length-replicate}
-use Rattle.std.proofs.lemmas.Bool.{cases_lt}
+use Rattle.std.proofs.lemmas.List.{map-set, get_or-set_other}
 use Rattle.discipline.specs.Meaning.{Sound}
 use Rattle.discipline.proofs.Admitted.{zero_at}
 use Rattle.run.specs.declared.accounts.LeaseState.{LeaseState}
@@ -10,9 +9,8 @@ use Rattle.run.specs.declared.accounts.LeaseState.TheVariants.{Free, Out}
 use Rattle.run.specs.declared.book.Book.{Book}
 use Rattle.run.specs.declared.accounts.Accounts.{Accounts}
 use Rattle.run.specs.declared.line.Line.{Line}
-use Rattle.run.specs.declared.lease.Lease.{Lease}
 use Rattle.job.specs.Names.{name_of}
-use Rattle.run.specs.Lines.{lefts, unused, new_line, worked_line}
+use Rattle.run.specs.Lines.{unused, new_line, worked_line}
 use Rattle.run.specs.States.{State, Tied, Leased}
 use Rattle.run.specs.Steps.{is_free, blank_book, enter_after, done_after, idled, made_with}
 use Rattle.run.specs.Histories.{Event, enter, take, done, back, pass, Step}

@@ -1,5 +1,5 @@
 -- Lists of calls of a run with their answers, and what can be counted in them.
-use Rattle.std.specs.Prelude.{◌≡◌, ℕ, ◌+◌, List, [], ◌∷◌, Ok, Err, Result}
+use Rattle.std.specs.Prelude.{ℕ, ◌+◌, List, [], ◌∷◌, Ok, Err, Result}
 use Rattle.refusal.specs.declared.Refusal.{Refusal}
 use Rattle.refusal.specs.Answers.{if_accepted}
 use Rattle.discipline.specs.Meaning.{Sound}

@@ -1,9 +1,9 @@
 -- First come, first served, is first in, first out.
-use Rattle.std.proofs.Common.{◌≡◌, ℕ, ◌<◌, ◌≤◌, [], ◌∷◌, sym, refl, ap, ◌∙◌, subst, inl, inr, arith}
+use Rattle.std.proofs.Common.{◌≡◌, ℕ, ◌<◌, ◌≤◌, [], ◌∷◌, sym, ap, ◌∙◌, inl, inr, arith}
 use Rattle.std.proofs.lemmas.List.{length_push}
 use Rattle.std.proofs.lemmas.Bool.{cases_lt, cases_eq}
-use Rattle.schedule.specs.Histories.{History, enter, tick, lost, sizes, jobs, ticks, Sized}
-use Rattle.schedule.specs.Schedules.{Entry, Schedule, job, idle, remaining, Nobody, Permitted, Legal, Finished, Follows}
+use Rattle.schedule.specs.Histories.{History, enter, tick, lost, sizes, jobs}
+use Rattle.schedule.specs.Schedules.{Entry, Schedule, job, idle, remaining, Permitted, Finished}
 use Rattle.schedule.specs.Sojourn.{finish}
 use Rattle.schedule.specs.Orders.{Earliest, Latest, FirstInFirstOut}
 use Rattle.schedule.proofs.Remaining.{remaining_old, remaining_new, remaining_other}

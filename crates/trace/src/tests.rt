@@ -117,7 +117,7 @@ fn lines_at_places(rt: HostRuntime) -> Result<(), Fail> {
         (0, 4, 6, 9)
     );
     assert_eq!(rt; (tick.value(), size.value()), (0, 42));
-    assert_eq!(rt; keyword.bytes(), b"job");
-    assert_eq!(rt; name.bytes(), b"moon");
+    assert_eq!(rt; keyword.bytes(), b"job".as_slice());
+    assert_eq!(rt; name.bytes(), b"moon".as_slice());
     Ok(())
 }

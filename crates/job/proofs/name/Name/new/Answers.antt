@@ -1,4 +1,4 @@
-use Rattle.std.proofs.Common.{◌≡◌, ℕ, ◌-◌, cond, List, ◌++◌, length, replicate, Some, None, Option, sym, ap, ◌∙◌, arith}
+use Rattle.std.proofs.Common.{◌≡◌, ℕ, ◌-◌, cond, List, ◌++◌, length, replicate, Some, None, sym, ap, ◌∙◌, arith}
 use Rattle.std.proofs.lemmas.List.{drop-replicate}
 use Rattle.job.specs.declared.name.Name.{Name}
 use Rattle.job.specs.Names.{name_of, spelled}

@@ -1,4 +1,4 @@
-use Rattle.std.proofs.Common.{◌≡◌, ℕ, ◌-◌, length}
+use Rattle.std.proofs.Common.{◌≡◌, ◌-◌, length}
 use Rattle.queues.specs.Rows.{row_of, gapless}
 use Rattle.queues.proofs.row.Row.close.Given as goal
 

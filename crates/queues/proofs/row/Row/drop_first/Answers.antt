@@ -1,4 +1,4 @@
-use Rattle.std.proofs.Common.{◌≡◌, ◌-◌, take, ap, ◌∙◌}
+use Rattle.std.proofs.Common.{◌-◌, take, ap, ◌∙◌}
 use Rattle.queues.specs.Rows.{around}
 use Rattle.queues.proofs.Ring.{row_next}
 use Rattle.queues.proofs.row.Row.drop_first.Goals as goal

@@ -1,4 +1,4 @@
-use Rattle.std.proofs.Common.{◌≡◌, get_or, ap, ◌∙◌, arith}
+use Rattle.std.proofs.Common.{get_or, ap, ◌∙◌, arith}
 use Rattle.queues.proofs.Ring.{row_len, row_at}
 use Rattle.queues.proofs.row.Row.number_at.Goals as goal
 

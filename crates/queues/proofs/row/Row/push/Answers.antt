@@ -1,4 +1,4 @@
-use Rattle.std.proofs.Common.{◌≡◌, ◌+◌, take, set, ap, ◌∙◌, arith}
+use Rattle.std.proofs.Common.{◌+◌, take, set, ap, ◌∙◌, arith}
 use Rattle.std.proofs.lemmas.List.{length-set}
 use Rattle.queues.specs.Rows.{around}
 use Rattle.queues.proofs.Ring.{row_len, row_push}

@@ -1,4 +1,4 @@
-use Rattle.std.proofs.Common.{◌≡◌, take, set, ap, ◌∙◌, arith}
+use Rattle.std.proofs.Common.{take, set, ap, ◌∙◌, arith}
 use Rattle.queues.specs.Rows.{around}
 use Rattle.queues.proofs.Ring.{row_len, row_set}
 use Rattle.queues.proofs.row.Row.put_at.Goals as goal

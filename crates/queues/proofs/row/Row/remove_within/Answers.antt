@@ -1,4 +1,4 @@
-use Rattle.std.proofs.Common.{◌≡◌, ◌<◌, length, sym, ◌∙◌, arith}
+use Rattle.std.proofs.Common.{◌<◌, length, sym, ◌∙◌, arith}
 use Rattle.queues.specs.Rows.{row_of}
 use Rattle.queues.specs.Standing.{without_at, without_none}
 use Rattle.queues.proofs.row.Row.remove_within.Goals as goal

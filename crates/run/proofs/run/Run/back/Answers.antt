@@ -1,4 +1,4 @@
-use Rattle.std.proofs.Common.{◌≡◌, ◌<◌, ◌≤◌, sym, ap, ◌∙◌, subst}
+use Rattle.std.proofs.Common.{◌<◌, ◌≤◌, sym, ap, ◌∙◌, subst}
 use Rattle.run.specs.declared.accounts.Accounts.{Accounts}
 use Rattle.run.specs.Steps.{may_answer}
 use Rattle.run.proofs.Keeping.{later_lines}

@@ -1,4 +1,4 @@
-use Rattle.std.proofs.Common.{◌≡◌, arith, rules}
+use Rattle.std.proofs.Common.{arith, rules}
 use Rattle.run.proofs.Asking.{line_at}
 use Rattle.run.proofs.run.Run.line.Goals as goal
 

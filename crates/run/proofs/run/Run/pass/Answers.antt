@@ -1,4 +1,4 @@
-use Rattle.std.proofs.Common.{◌≡◌, ◌≤◌, sym, subst}
+use Rattle.std.proofs.Common.{◌≤◌, sym, subst}
 use Rattle.run.specs.declared.accounts.Accounts.{Accounts}
 use Rattle.run.proofs.Keeping.{later_lines}
 use Rattle.run.proofs.Ended.{count_few, pass_clock, end_clock, end_total, end_most, end_lines, end_held}

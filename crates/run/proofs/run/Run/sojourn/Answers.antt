@@ -1,4 +1,4 @@
-use Rattle.std.proofs.Common.{◌≡◌, ◌<◌, sym, ap, ◌∙◌, arith, rules}
+use Rattle.std.proofs.Common.{◌<◌, ap, ◌∙◌, arith, rules}
 use Rattle.run.specs.Lines.{sojourn_of}
 use Rattle.run.proofs.Asking.{line_at, sojourn_fits}
 use Rattle.run.proofs.run.Run.sojourn.Goals as goal
