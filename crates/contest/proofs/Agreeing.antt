@@ -1,9 +1,9 @@
 -- Two transcripts of one list of calls that both keep the rule have the same verdicts, history, clock and work.
-use Rattle.std.proofs.Common.{◌≡◌, ℕ, ◌+◌, ◌-◌, Bool, true, false, cond, List, [], ◌∷◌, map, length, is_some, Some, None, Ok, Err, Option, Result, sym, refl, ap, ◌∙◌, subst, arith}
+use Rattle.std.proofs.Common.{◌≡◌, ℕ, ◌-◌, true, false, List, [], ◌∷◌, map, is_some, None, Ok, Err, Option, Result, sym, refl, ap, ◌∙◌, arith}
 use Rattle.refusal.specs.declared.Refusal.{Refusal}
 use Rattle.refusal.specs.Answers.{and_then, if_accepted}
 use Rattle.run.specs.declared.lease.Lease.{Lease}
-use Rattle.run.specs.Histories.{Event, enter, take, done, back, pass, one, ticks, units, sizes}
+use Rattle.run.specs.Histories.{Event, take, one, ticks, units, sizes}
 use Rattle.schedule.specs.Histories as S
 use Rattle.schedule.specs.Histories.{History, jobs}
 use Rattle.contest.specs.Calls.{Call}

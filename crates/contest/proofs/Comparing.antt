@@ -1,12 +1,11 @@
 -- Every run is faithful, and a run over SRPT beside any other run of the same calls has the fewest jobs present.
-use Rattle.std.proofs.Common.{◌≡◌, ℕ, zero, suc, ◌+◌, ◌-◌, ◌<◌, ◌≤◌, List, [], ◌∷◌, length, get_or, take, drop, Some, None, Ok, Err, Option, Result, sym, refl, ap, ◌∙◌, subst, arith}
+use Rattle.std.proofs.Common.{◌≡◌, ℕ, zero, suc, ◌≤◌, List, [], ◌∷◌, get_or, take, drop, Some, None, Ok, Err, Option, sym, refl, ap, ◌∙◌, subst, arith}
 use Rattle.discipline.specs.declared.Discipline.{Ghosts}
 use Rattle.discipline.specs.Meaning.{Sound}
 use Rattle.run.specs.declared.run.Run.{Run}
 use Rattle.run.specs.Lines.{unused}
 use Rattle.run.specs.States.{State, Tied}
 use Rattle.run.specs.Runs.{meaning}
-use Rattle.run.specs.Steps.{made_with}
 use Rattle.run.specs.Histories as H
 use Rattle.run.specs.Histories.{Event, Reaches, ticks}
 use Rattle.run.proofs.Reached.{always_lawful}
@@ -22,13 +21,13 @@ use Rattle.schedule.proofs.Computed.{Best}
 use Rattle.contest.specs.Calls.{Call}
 use Rattle.contest.specs.Transcripts.{history, own_schedule, lease_out, entries_before}
 use Rattle.contest.specs.Rules.{Ruled}
-use Rattle.contest.specs.Chains.{Asks, Chain, made, called}
-use Rattle.contest.specs.Comparison.{present_in, Faithful, Fewest, Compared, RunsFaithful, RunsCompared}
+use Rattle.contest.specs.Chains.{Chain, made, called}
+use Rattle.contest.specs.Comparison.{present_in, Faithful, Fewest, RunsFaithful, RunsCompared}
 use Rattle.contest.proofs.Counts.{Table, table_count}
 use Rattle.contest.proofs.Lines.{stay_counted}
 use Rattle.contest.proofs.Keeping.{Kept, step_kept, made_kept, kept_legal}
 use Rattle.contest.proofs.Ruling.{answered}
-use Rattle.contest.proofs.Agreeing.{Alike, Asked, agreed}
+use Rattle.contest.proofs.Agreeing.{Asked, agreed}
 
 -- ---- whom any discipline picks, and whom SRPT picks
 

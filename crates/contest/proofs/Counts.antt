@@ -1,8 +1,8 @@
 -- Tables of left work beside a history and a schedule: how many jobs are present, and whether there is work.
-use Rattle.std.proofs.Common.{◌≡◌, ℕ, zero, suc, ◌+◌, ◌-◌, ◌<◌, ◌≤◌, Bool, true, false, cond, eqb, ltb, ◌≢◌, ◌⊎◌, List, [], ◌∷◌, ◌++◌, length, get_or, set, is_some, Some, None, sum_by, sum, count_by, Option, sym, refl, ap, ◌∙◌, subst, inl, inr, arith}
-use Rattle.std.proofs.lemmas.List.{get_or_past, length_push, get_or_push, get_or_append_left, get_or-set_same, get_or-set_other}
+use Rattle.std.proofs.Common.{◌≡◌, ℕ, zero, suc, ◌+◌, ◌-◌, ◌<◌, Bool, cond, eqb, ltb, List, [], ◌∷◌, ◌++◌, length, get_or, set, is_some, Some, None, sum, Option, sym, refl, ap, ◌∙◌, subst, inl, inr, arith}
+use Rattle.std.proofs.lemmas.List.{get_or_past, length_push, get_or-set_same, get_or-set_other}
 use Rattle.std.proofs.lemmas.List.Sums.{sum_by-cons, get_or-le-sum_by}
-use Rattle.std.proofs.lemmas.Bool.{cases_lt, cases_eq, lt-ltb, le-ltb, ne_eqb}
+use Rattle.std.proofs.lemmas.Bool.{cases_lt, cases_eq, lt-ltb, ne_eqb}
 use Rattle.discipline.specs.Meaning.{Sound, count_present}
 use Rattle.run.proofs.Ended.{present_below}
 use Rattle.schedule.specs.Histories.{History, enter, sizes, jobs}
@@ -11,7 +11,7 @@ use Rattle.schedule.specs.Occupancy.{occupancy}
 use Rattle.schedule.specs.Computed.{remaining_by_job}
 use Rattle.schedule.proofs.Outside.{count_positive}
 use Rattle.schedule.proofs.Counting.{occupancy_positive}
-use Rattle.schedule.proofs.Remaining.{get_or-remaining, unnamed, remaining_old, remaining_new, remaining_worked, remaining_other}
+use Rattle.schedule.proofs.Remaining.{get_or-remaining, remaining_old, remaining_new, remaining_worked, remaining_other}
 
 -- ---- how many entries are above 0
 

@@ -1,11 +1,11 @@
 -- A run keeps to its history and its own schedule, call by call.
-use Rattle.std.proofs.Common.{◌≡◌, ℕ, ◌+◌, ◌-◌, ◌<◌, ◌≤◌, max, Bool, true, false, cond, ◌&&◌, eqb, ltb, leb, List, [], ◌∷◌, length, get_or, set, replicate, Some, None, Ok, Err, Option, Result, sym, refl, ap, ◌∙◌, subst, inl, inr, arith}
+use Rattle.std.proofs.Common.{◌≡◌, ℕ, ◌<◌, max, Bool, true, false, ◌&&◌, eqb, List, [], ◌∷◌, get_or, Some, None, Ok, Err, Option, sym, refl, ap, ◌∙◌, subst, inl, inr, arith}
 use Rattle.std.proofs.lemmas.Bool.Decides.{nat_tests}
 use Rattle.std.proofs.lemmas.List.{length_push, get_or_push, get_or_append_left}
 use Rattle.std.proofs.lemmas.Bool.{cases_lt}
 use Rattle.job.specs.Rules.{good_size}
 use Rattle.job.specs.Names.{name_of}
-use Rattle.discipline.specs.Meaning.{Sound, count_present}
+use Rattle.discipline.specs.Meaning.{count_present}
 use Rattle.discipline.proofs.Admitted.{zero_at}
 use Rattle.run.specs.declared.accounts.Accounts.{Accounts}
 use Rattle.run.specs.declared.accounts.LeaseState.{LeaseState}
@@ -13,7 +13,7 @@ use Rattle.run.specs.declared.accounts.LeaseState.TheVariants.{Free, Out}
 use Rattle.run.specs.declared.lease.Lease.{Lease}
 use Rattle.run.specs.Lines.{unused}
 use Rattle.run.specs.States.{State, Tied}
-use Rattle.run.specs.Steps.{is_free, is_out_on, is_the_lease, made_with, enter_after, take_after, done_after, idled}
+use Rattle.run.specs.Steps.{is_free, is_out_on, made_with, enter_after, take_after, done_after, idled}
 use Rattle.run.specs.Histories.{Event, enter, take, done, back, pass, Step}
 use Rattle.run.proofs.Keeping.{lefts_at}
 use Rattle.run.proofs.Ended.{present_below}

@@ -1,12 +1,11 @@
 -- The lines of the book keep to the history and the run's own schedule, call by call.
-use Rattle.std.proofs.Common.{◌≡◌, ℕ, ◌+◌, ◌-◌, ◌<◌, ◌≤◌, Bool, true, false, cond, eqb, ltb, List, [], ◌∷◌, length, get_or, set, sym, refl, ap, ◌∙◌, subst, inl, inr, arith}
-use Rattle.std.proofs.lemmas.Bool.Decides.{nat_tests}
+use Rattle.std.proofs.Common.{◌≡◌, ℕ, ◌+◌, ◌-◌, ◌<◌, Bool, cond, eqb, List, [], ◌∷◌, length, get_or, set, sym, refl, ap, ◌∙◌, subst, inl, inr, arith}
 use Rattle.std.proofs.lemmas.List.{length_push, get_or_push, get_or_append_left, get_or-set_same, get_or-set_other}
 use Rattle.std.proofs.lemmas.Bool.{cases_lt, cases_eq, lt-ltb, le-ltb, eq-eqb, ne_eqb}
 use Rattle.job.specs.declared.name.Name.{Name}
 use Rattle.run.specs.declared.line.Line.{Line}
 use Rattle.run.specs.Lines.{unused, new_line, worked_line, sojourn_of}
-use Rattle.schedule.specs.Histories.{History, enter, tick, lost, sizes, jobs, ticks, arrivals, arrival, Sized}
+use Rattle.schedule.specs.Histories.{History, enter, tick, lost, sizes, jobs, ticks, arrivals, Sized}
 use Rattle.schedule.specs.Schedules.{Schedule, job, idle, remaining, Legal}
 use Rattle.schedule.specs.Occupancy.{ticks_present}
 use Rattle.schedule.specs.Sojourn.{finish}

@@ -1,5 +1,5 @@
 -- A lease that is handed in, as a call of a list: accepted, or refused and given back.
-use Rattle.std.proofs.Common.{◌≡◌, ℕ, Some, None, Ok, Err, Option, Result, sym, refl, ap, ◌∙◌, subst}
+use Rattle.std.proofs.Common.{◌≡◌, ℕ, Some, None, Ok, Err, Option, sym, refl, subst}
 use Rattle.refusal.specs.declared.Refusal.{Refusal}
 use Rattle.discipline.specs.declared.Discipline.{Ghosts}
 use Rattle.run.specs.declared.run.Run.{Run}

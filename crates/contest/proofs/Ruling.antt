@@ -1,13 +1,12 @@
 -- Every call gets the verdict that the rule gives for what can be seen from outside.
-use Rattle.std.proofs.Common.{◌≡◌, ℕ, ◌+◌, ◌-◌, ◌<◌, ◌≤◌, Bool, true, false, cond, not, ◌&&◌, eqb, ltb, List, [], ◌∷◌, length, is_some, Some, None, Ok, Err, sum_by, sum, Option, Result, sym, refl, ap, ◌∙◌, subst, arith}
-use Rattle.std.proofs.lemmas.Bool.Decides.{nat_tests}
+use Rattle.std.proofs.Common.{◌≡◌, ℕ, ◌-◌, Bool, true, false, not, ◌&&◌, eqb, ltb, List, is_some, Some, None, Ok, sum, Option, Result, sym, refl, ap, ◌∙◌, subst, arith}
 use Rattle.std.proofs.lemmas.List.Sums.{sum-map}
 use Rattle.std.proofs.lemmas.Bool.{eq-eqb, ne_eqb}
 use Rattle.refusal.specs.declared.Refusal.{Refusal}
 use Rattle.refusal.specs.declared.Refusal.TheVariants.{Size, Name, LeaseOut, BookFull, ClockEnd, Nobody, Somebody, NotTheLease}
 use Rattle.refusal.specs.Answers.{provided, and_then}
 use Rattle.job.specs.Rules.{good_size, good_name}
-use Rattle.discipline.specs.Meaning.{Sound, count_present}
+use Rattle.discipline.specs.Meaning.{count_present}
 use Rattle.run.specs.declared.accounts.Accounts.{Accounts}
 use Rattle.run.specs.declared.accounts.LeaseState.{LeaseState}
 use Rattle.run.specs.declared.accounts.LeaseState.TheVariants.{Free, Out}
@@ -16,9 +15,9 @@ use Rattle.run.specs.declared.line.Line.{Line}
 use Rattle.run.specs.States.{State, Tied}
 use Rattle.run.specs.Questions.{unfinished_work}
 use Rattle.run.specs.Steps.{is_free, is_out_on, is_the_lease, before_end, lease_on, giving_back, done_rule}
-use Rattle.run.specs.Histories.{Event, enter, take, done, back, pass, Step, ticks, units, sizes}
+use Rattle.run.specs.Histories.{Event, Step, ticks, units, sizes}
 use Rattle.run.proofs.Accepting.{enter_rules, done_rules}
-use Rattle.schedule.specs.Histories.{History, jobs}
+use Rattle.schedule.specs.Histories.{History}
 use Rattle.schedule.specs.Schedules.{Schedule, Rule}
 use Rattle.contest.specs.Calls.{Hand, own, stray, Call}
 use Rattle.contest.specs.Transcripts.{Verdict, without_lease, verdict, lease_out, history, own_schedule}

@@ -1,5 +1,5 @@
 -- A contest stands after each call: the chains of both runs grow, and the theorem holds of them.
-use Rattle.std.proofs.Common.{◌≡◌, ℕ, zero, suc, ◌+◌, ◌<◌, ◌≤◌, true, List, [], ◌∷◌, ◌++◌, map, reverse, length, get_or, take, drop, set, Some, None, Ok, Option, sym, refl, ap, ◌∙◌, subst, arith}
+use Rattle.std.proofs.Common.{◌≡◌, ℕ, zero, suc, ◌+◌, ◌<◌, ◌≤◌, List, [], ◌∷◌, reverse, length, get_or, take, drop, set, Some, None, Ok, Option, sym, refl, ap, ◌∙◌, subst, arith}
 use Rattle.std.proofs.lemmas.List.{take_more_set, reverse-append, map-set, set-get_or, get_or-map}
 use Rattle.refusal.specs.declared.Refusal.TheVariants.{NotTheLease}
 use Rattle.refusal.specs.Answers.{provided}
@@ -26,9 +26,8 @@ use Rattle.contest.specs.declared.turn.Leases.{Leases}
 use Rattle.contest.specs.Calls as C
 use Rattle.contest.specs.Transcripts.{history, own_schedule, lease_after, lease_out, entries_before}
 use Rattle.contest.specs.Chains.{Asks, Chain, made, called}
-use Rattle.contest.specs.Comparison.{Compared}
-use Rattle.contest.specs.Played.{call_of, answer_of, Carries, Ready, Plays}
-use Rattle.contest.specs.Contested.{calls, occupancies, Turns, Led, Least, Takes, Contested}
+use Rattle.contest.specs.Played.{call_of, Carries, Ready}
+use Rattle.contest.specs.Contested.{calls, occupancies, Turns, Led, Takes, Contested}
 use Rattle.contest.proofs.Keeping.{Held}
 use Rattle.contest.proofs.Ruling.{lease_is}
 use Rattle.contest.proofs.Comparing.{Picks, by_any, faithful, fewest, runs_compared}

@@ -1,5 +1,5 @@
 -- The rule for refusals, over what can be seen from outside a run.
-use Rattle.std.specs.Prelude.{◌≡◌, ℕ, ◌-◌, Bool, true, false, not, List, [], ◌∷◌, is_some, Ok, Err, ◌==◌, nat_lt}
+use Rattle.std.specs.Prelude.{◌≡◌, ℕ, ◌-◌, Bool, not, List, [], ◌∷◌, is_some, Ok, Err, ◌==◌, nat_lt}
 use Rattle.refusal.specs.declared.Refusal.TheVariants.{Size, Name, LeaseOut, BookFull, ClockEnd, Nobody, Somebody, NotTheLease}
 use Rattle.refusal.specs.Answers.{provided}
 use Rattle.job.specs.Rules.{good_size, good_name}

@@ -2,4 +2,4 @@ use Rattle.std.proofs.Common.{◌≡◌, length}
 use Rattle.contest.proofs.tests.shorter_job_overtakes.Given as goal
 
 abbrev pub invariant-loop-i : goal.invariant-loop-i
-invariant-loop-i l = length l.rounds ≡ 16
+invariant-loop-i g l = length l.rounds ≡ 16
