@@ -1,6 +1,6 @@
 #!/usr/bin/env bash
 # Runs the load of crates/heap_bench once over the proved heap and once over each of Rust's collections,
-# compares what they print, and prints each time as a ratio to the proved heap's. Build the program first: rt check heap_bench.
+# compares what they print, and prints each time as a ratio to the proved heap's. Build the program first: (cd crates/heap_bench && rt run).
 set -euo pipefail
 here=$(cd "$(dirname "$0")" && pwd)
 root=$(cd "$here/../.." && pwd)
@@ -18,7 +18,7 @@ clock() {
     echo $((end - start))
 }
 
-heap=$(clock "$work/heap" "$root/target/bin/heap_bench")
+heap=$(clock "$work/heap" "$root/crates/heap_bench/out/heap_bench")
 tree=$(clock "$work/tree" "$work/baseline" tree)
 lazy=$(clock "$work/lazy" "$work/baseline" lazy)
 cmp "$work/heap" "$work/tree"
