@@ -2,7 +2,8 @@
 use Rattle.std.proofs.Common.{◌≡◌, ℕ, ◌<◌, ◌≤◌, List, get_or, Some, sym, ◌∙◌, arith}
 use Rattle.discipline.specs.declared.Discipline.{Ghosts}
 use Rattle.discipline.specs.Meaning.{Move, Sound}
-use Rattle.queues.specs.Rows.{first_of, last_of}
+use Rattle.discipline.specs.Rows.{first_of}
+use Rattle.queues.specs.Rows.{last_of}
 use Rattle.run.specs.declared.run.Run.{Run}
 use Rattle.run.specs.States.{State, Tied}
 use Rattle.run.specs.Runs.{meaning, discipline_of}

@@ -3,8 +3,8 @@ use Rattle.std.proofs.Common.{◌≡◌, ℕ, ◌-◌, List, [], ◌∷◌, ◌+
 use Rattle.job.proofs.Sizes.{size_low}
 use Rattle.discipline.specs.declared.Discipline.{Ghosts}
 use Rattle.discipline.specs.Meaning.{Move, cleared, admitted, worked, Sound}
-use Rattle.queues.specs.Rows.{leaves}
-use Rattle.queues.specs.Admitted.{none_once}
+use Rattle.discipline.specs.Rows.{leaves}
+use Rattle.discipline.proofs.Admitted.{none_once}
 use Rattle.run.specs.declared.run.Run.{Run}
 use Rattle.run.specs.States.{State, Tied}
 use Rattle.run.specs.Runs.{meaning, discipline_of}

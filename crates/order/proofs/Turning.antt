@@ -5,7 +5,7 @@ use Rattle.std.proofs.lemmas.Bool.{eq-eqb, ne_eqb}
 use Rattle.queues.specs.declared.round_robin.RoundRobin.{RoundRobin}
 use Rattle.queues.specs.contracts.round_robin_calls.RoundRobinDiscipline.TheImpl.{ghosts}
 use Rattle.discipline.specs.Meaning.{admitted, worked}
-use Rattle.queues.specs.Rows.{leaves}
+use Rattle.discipline.specs.Rows.{leaves}
 use Rattle.queues.specs.Queues.{Queue, queue, round_robin, turned, rounds, moved}
 use Rattle.run.specs.declared.run.Run.{Run}
 use Rattle.run.specs.States.{State}

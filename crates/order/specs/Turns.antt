@@ -2,7 +2,7 @@
 use Rattle.std.specs.Prelude.{◌≡◌, ℕ, ◌+◌, ◌<◌, List, [], ◌∷◌, ◌++◌, Ok, slice_index}
 use Rattle.queues.specs.declared.round_robin.RoundRobin.{RoundRobin}
 use Rattle.queues.specs.contracts.round_robin_calls.RoundRobinDiscipline.TheImpl.{ghosts as round_robins}
-use Rattle.queues.specs.Rows.{times}
+use Rattle.discipline.specs.Rows.{times}
 use Rattle.queues.specs.Queues.{Queue, queue, round_robin}
 use Rattle.queues.specs.Views.{round_queue}
 use Rattle.run.specs.declared.run.Run.{Run}

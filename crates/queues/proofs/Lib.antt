@@ -1,3 +1,4 @@
 pub mod Ring
 pub mod Turning
 pub mod Following
+pub mod Leaving

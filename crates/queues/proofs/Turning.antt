@@ -4,10 +4,10 @@ use Rattle.std.specs.List.{AllByRecursion}
 use Rattle.std.proofs.lemmas.Bool.{eq-eqb, ne_eqb}
 use Rattle.std.proofs.lemmas.List.{append_assoc, append-nil, length_push}
 use Rattle.discipline.specs.Meaning.{Move, cleared, admitted, worked}
-use Rattle.queues.specs.Rows.{times, leaves}
+use Rattle.discipline.specs.Rows.{times, leaves}
 use Rattle.queues.specs.Queues.{Queue, queue, round_robin, rounds, turned}
 use Rattle.queues.specs.Laws.{WithinTurn, after_moves, units_among, admitted_by}
-use Rattle.queues.specs.Admitted.{times_push}
+use Rattle.discipline.proofs.Admitted.{times_push}
 
 pub length-turned : (xs : List ℕ) → length (drop 1 xs ++ take 1 xs) ≡ length xs
 length-turned [] = refl

@@ -4,9 +4,10 @@ use Rattle.std.proofs.Common.{sym, ap, subst, arith}
 use Rattle.std.proofs.lemmas.Bool.Decides.{nat_tests}
 use Rattle.std.proofs.lemmas.Bool.{eq-eqb}
 use Rattle.discipline.specs.Meaning.{Chosen}
-use Rattle.queues.specs.Rows.{first_of, last_of, times}
+use Rattle.discipline.specs.Rows.{first_of, times}
+use Rattle.queues.specs.Rows.{last_of}
 use Rattle.queues.specs.Standing.{last_in}
-use Rattle.queues.specs.Admitted.{Once}
+use Rattle.discipline.proofs.Admitted.{Once}
 
 above : (n m : ℕ) → 0 < n → n ≡ cond (nat_lt 0 m) 1 0 → 0 < m
 above n m h e = grind (arith, nat_tests)

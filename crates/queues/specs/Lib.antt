@@ -6,4 +6,3 @@ pub mod Quanta
 pub mod Laws
 pub mod Lasting
 pub mod Standing
-pub mod Admitted

@@ -1,7 +1,8 @@
 -- How the disciplines that keep a row choose, and how row and turn move.
 use Rattle.std.specs.Prelude.{ℕ, ◌+◌, cond, List, [], ◌∷◌, ◌++◌, take, drop, Option, ◌==◌}
 use Rattle.discipline.specs.Meaning.{Move, cleared, admitted, worked}
-use Rattle.queues.specs.Rows.{first_of, last_of, leaves}
+use Rattle.discipline.specs.Rows.{first_of, leaves}
+use Rattle.queues.specs.Rows.{last_of}
 
 -- First come first served; last come first served, preemptive; round robin with a quantum.
 pub data Rule : Type 0 where

@@ -1,10 +1,11 @@
 -- Where numbers stand in a row, and a row with one of them taken out.
-use Rattle.std.specs.Prelude.{◌≡◌, ℕ, zero, suc, ◌+◌, ◌-◌, ◌<◌, ◌≤◌, cond, ◌≢◌, List, [], ◌∷◌, ◌++◌, length, take, drop, Some, ◌==◌, slice_index, slice_set, refl}
+use Rattle.std.specs.Prelude.{◌≡◌, ℕ, zero, suc, ◌+◌, ◌-◌, ◌<◌, ◌≤◌, cond, List, [], ◌∷◌, ◌++◌, length, take, drop, Some, ◌==◌, slice_index, slice_set, refl}
 use Rattle.std.proofs.Common.{sym, ap, subst, ◌∙◌, arith}
 use Rattle.std.proofs.lemmas.Bool.{eq-eqb, ne_eqb}
 use Rattle.std.proofs.lemmas.Bool.Decides.{nat_tests}
 use Rattle.std.proofs.lemmas.List.{append-nil, drop_all}
-use Rattle.queues.specs.Rows.{first_of, last_of, without, gapless, times}
+use Rattle.discipline.specs.Rows.{first_of, without, times}
+use Rattle.queues.specs.Rows.{last_of, gapless}
 
 pub first_is : (xs : List ℕ) → 0 < length xs → Some (slice_index xs 0) ≡ first_of xs
 first_is [] l = absurd (omega arith)
@@ -18,19 +19,6 @@ last_is (x ∷ (y ∷ ys)) l =
     ap (λ k. Some (slice_index (x ∷ (y ∷ ys)) k)) e ∙ last_is (y ∷ ys) (omega arith)
 
 -- ---- a number taken out
-pub without_none : (ys : List ℕ) (n : ℕ) → ((k : ℕ) → k < length ys → slice_index ys k ≢ n) → without n ys ≡ ys
-without_none [] n h = refl
-without_none (y ∷ ys) n h =
-    ap (λ b. cond b ys (y ∷ without n ys)) (ne_eqb n y (λ e. h 0 (omega arith) (sym e)))
-    ∙ ap (λ (zs : List ℕ). y ∷ zs) (without_none ys n (λ k l. h (suc k) (omega arith)))
-
-pub without_at : (ys : List ℕ) (at n : ℕ) → at < length ys → slice_index ys at ≡ n → ((k : ℕ) → k < at → slice_index ys k ≢ n) → without n ys ≡ gapless ys at
-without_at [] at n l e h = absurd (omega arith)
-without_at (y ∷ ys) zero n l e h = ap (λ b. cond b ys (y ∷ without n ys)) (eq-eqb n y (sym e))
-without_at (y ∷ ys) (suc at) n l e h =
-    ap (λ b. cond b ys (y ∷ without n ys)) (ne_eqb n y (λ f. h 0 (omega arith) (sym f)))
-    ∙ ap (λ (zs : List ℕ). y ∷ zs) (without_at ys at n (omega arith) e (λ k m. h (suc k) (omega arith)))
-
 pub without-first : (ys : List ℕ) (n : ℕ) → first_of ys ≡ Some n → without n ys ≡ drop 1 ys
 without-first [] n e = refl
 without-first (y ∷ ys) n e = let same : n ≡ y = cc in ap (λ b. cond b ys (y ∷ without n ys)) (eq-eqb n y same)

@@ -1,7 +1,8 @@
 // The present jobs of a discipline that keeps them in a row.
 ghost use Rattle.std.specs.Prelude.{◌≡◌, ℕ, ◌≤◌, length, if◌then◌else◌, nat_lt, slice_index};
 ghost use Rattle.discipline.specs.Meaning.{count_present};
-ghost use Rattle.queues.specs.Rows.{row_of, times};
+ghost use Rattle.discipline.specs.Rows.{times};
+ghost use Rattle.queues.specs.Rows.{row_of};
 
 use crate::row::Row;
 use job::MAX_JOBS;

@@ -2,7 +2,8 @@
 ghost use Rattle.std.specs.Prelude.{◌≡◌, ◌-◌, [], ◌∷◌, ◌++◌, take, drop, replicate, slice_index, slice_set};
 ghost use Rattle.refusal.specs.Answers.{if_accepted};
 ghost use Rattle.discipline.specs.Meaning.{admit_answer, worked_answer, left_answer, count_present};
-ghost use Rattle.queues.specs.Rows.{row_of, first_of, last_of, leaves};
+ghost use Rattle.discipline.specs.Rows.{first_of, leaves};
+ghost use Rattle.queues.specs.Rows.{row_of, last_of};
 
 use crate::jobs::Jobs;
 use crate::row::Row;

@@ -1,6 +1,7 @@
 // What a row of job numbers does.
 ghost use Rattle.std.specs.Prelude.{◌≡◌, ℕ, ◌-◌, ◌<◌, ◌≤◌, [], ◌∷◌, ◌++◌, length, take, drop, ◌≢◌, slice_index, slice_set};
-ghost use Rattle.queues.specs.Rows.{row_of, place_of, first_of, last_of, without, leaves, gapless, times};
+ghost use Rattle.discipline.specs.Rows.{first_of, without, leaves, times};
+ghost use Rattle.queues.specs.Rows.{row_of, place_of, last_of, gapless};
 
 use crate::row::Row;
 use job::MAX_JOBS;

@@ -13,14 +13,6 @@ pub fn numbered(answer: Result<u32, Refusal>) -> Answer {
     }
 }
 
-// The answer of a call that answers nothing more.
-pub fn plain(answer: Result<(), Refusal>) -> Answer {
-    match answer {
-        Ok(()) => Answer::Accepted,
-        Err(cause) => Answer::Refused(cause),
-    }
-}
-
 // The figures of a run at one moment.
 #[derive(Clone, Copy)]
 pub struct Figures {

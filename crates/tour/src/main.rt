@@ -1,4 +1,4 @@
-// Takes jobs through runs under first come first served and round robin, and through a contest with SRPT, and prints every action with what it leaves.
+// Takes two jobs through a run under round robin, and a list of calls through a contest of SRPT with first come first served, and prints every action with what it leaves.
 #![tactic(auto)]
 
 mod answer;
@@ -6,89 +6,16 @@ mod print;
 mod side_by_side;
 mod ticks;
 
-use answer::{Figures, plain};
-use discipline::Fcfs;
-use print::{enter, pass, quantum, sojourn, summary, tick};
+use print::{enter, quantum, summary, tick};
 use queues::{Quantum, RoundRobin};
 use run::Run;
 use side_by_side::side_by_side;
 use std::io;
-use ticks::{lose_interrupted, serve, serve_interrupted, stray};
+use ticks::serve;
 
 fn main(rt: HostRuntime) -> anyhow::Result<()> {
-    walk(&rt)
-}
-
-fn walk(rt: &HostRuntime) -> anyhow::Result<()> {
-    three_jobs(rt)?;
-    lost_and_empty(rt)?;
-    two_runs(rt)?;
-    limits(rt)?;
-    taking_turns(rt)?;
-    side_by_side(rt)
-}
-
-// Three jobs arrive in ticks 0, 1 and 2 and are served to the end.
-fn three_jobs(rt: &HostRuntime) -> io::Result<()> {
-    println!(rt; "three jobs under fcfs")?;
-    let mut run = Run::new(Fcfs::new(), 7);
-    enter(rt, &mut run, "moon", 4)?;
-    tick(rt, serve_interrupted(&mut run, "late"), "done")?;
-    enter(rt, &mut run, "comet", 1)?;
-    pass(rt, &mut run)?;
-    tick(rt, serve(&mut run), "done")?;
-    enter(rt, &mut run, "arc", 3)?;
-    for _ in 0..7 {
-        tick(rt, serve(&mut run), "done")?;
-    }
-    summary(rt, &run)?;
-    sojourn(rt, &run, 2, "arc")?;
-    sojourn(rt, &run, 1, "comet")?;
-    sojourn(rt, &run, 0, "moon")?;
-    sojourn(rt, &run, 3, "late")
-}
-
-// A lost tick, worked ticks, and an empty one.
-fn lost_and_empty(rt: &HostRuntime) -> io::Result<()> {
-    println!(rt; "a lost tick and an empty one")?;
-    let mut run = Run::new(Fcfs::new(), 8);
-    enter(rt, &mut run, "star", 1)?;
-    tick(rt, lose_interrupted(&mut run, "late"), "back")?;
-    enter(rt, &mut run, "late", 1)?;
-    tick(rt, serve(&mut run), "done")?;
-    tick(rt, serve(&mut run), "done")?;
-    pass(rt, &mut run)?;
-    summary(rt, &run)
-}
-
-// The lease of one run is handed in to another, and then back to its own.
-fn two_runs(rt: &HostRuntime) -> io::Result<()> {
-    println!(rt; "a lease and another run")?;
-    let mut own = Run::new(Fcfs::new(), 9);
-    let mut other = Run::new(Fcfs::new(), 10);
-    enter(rt, &mut own, "star", 2)?;
-    enter(rt, &mut other, "star", 2)?;
-    let answer = plain(stray(&mut own, &mut other));
-    let after = Figures::of(&other);
-    println!(rt; "done by the other: {answer}; {after}")?;
-    let after = Figures::of(&own);
-    println!(rt; "back by its own: accepted; {after}")
-}
-
-// Sizes and names at the edge of their rules, and the 1,025th job.
-fn limits(rt: &HostRuntime) -> io::Result<()> {
-    println!(rt; "sizes, names and the full book")?;
-    let mut run = Run::new(Fcfs::new(), 11);
-    enter(rt, &mut run, "abcdefgh", 10_000)?;
-    enter(rt, &mut run, "abcdefgh", 10_001)?;
-    enter(rt, &mut run, "abcdefgh", 0)?;
-    enter(rt, &mut run, "abcdefghi", 1)?;
-    enter(rt, &mut run, "Moon", 1)?;
-    enter(rt, &mut run, "", 1)?;
-    for _ in 0..1023 {
-        let _ = run.enter(b"filler", 1);
-    }
-    enter(rt, &mut run, "one-more", 1)
+    taking_turns(&rt)?;
+    side_by_side(&rt)
 }
 
 // Quantums at the edge of their rule, and two jobs of two units that take turns of one unit.
@@ -104,7 +31,7 @@ fn taking_turns(rt: &HostRuntime) -> io::Result<()> {
     enter(rt, &mut run, "sun", 2)?;
     enter(rt, &mut run, "moon", 2)?;
     for _ in 0..4 {
-        tick(rt, serve(&mut run), "done")?;
+        tick(rt, serve(&mut run))?;
     }
     summary(rt, &run)
 }

@@ -2,7 +2,7 @@ use Rattle.std.proofs.Common.{◌≡◌, ℕ, ◌+◌, ◌<◌, List, length, ge
 use Rattle.std.proofs.lemmas.List.{length-set, length_push}
 use Rattle.job.proofs.Sizes.{size_low, size_high}
 use Rattle.queues.specs.Rows.{row_of}
-use Rattle.queues.specs.Admitted.{Once, set_fits, count_more, room, once_more}
+use Rattle.discipline.proofs.Admitted.{Once, set_fits, count_more, room, once_more}
 use Rattle.queues.proofs.jobs.Jobs.admit.Goals as goal
 
 pub push-requires : goal.push-requires

@@ -1,5 +1,5 @@
 use Rattle.queues.specs.Rows.{row_of}
-use Rattle.queues.specs.Admitted.{none_long, none_fits, none_many, none_once}
+use Rattle.discipline.proofs.Admitted.{none_long, none_fits, none_many, none_once}
 use Rattle.queues.proofs.jobs.Jobs.new.Goals as goal
 
 pub invariant_of-result : goal.invariant_of-result

@@ -1,7 +1,8 @@
 use Rattle.std.proofs.Common.{ℕ, ◌-◌, ◌<◌, ◌≤◌, List, length, get_or, set, sym, ap, ◌∙◌, subst, arith}
 use Rattle.std.proofs.lemmas.List.{length-set}
 use Rattle.queues.specs.Rows.{row_of}
-use Rattle.queues.specs.Admitted.{Once, set_fits, leaves_many, leaves_once}
+use Rattle.discipline.proofs.Admitted.{Once, set_fits}
+use Rattle.queues.proofs.Leaving.{leaves_many, leaves_once}
 use Rattle.queues.proofs.jobs.Jobs.worked.Goals as goal
 
 pub invariant_of-self : goal.invariant_of-self

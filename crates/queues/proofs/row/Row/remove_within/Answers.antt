@@ -1,6 +1,6 @@
 use Rattle.std.proofs.Common.{◌<◌, length, sym, ◌∙◌, arith}
 use Rattle.queues.specs.Rows.{row_of}
-use Rattle.queues.specs.Standing.{without_at, without_none}
+use Rattle.discipline.proofs.Standing.{without_at, without_none}
 use Rattle.queues.proofs.row.Row.remove_within.Goals as goal
 
 pub returns-then-at-len : goal.returns-then-at-len
