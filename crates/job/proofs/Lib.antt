@@ -1,3 +1,2 @@
-mod Scanning
 pub mod Keeping
 pub mod Sizes

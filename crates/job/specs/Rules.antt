@@ -1,5 +1,6 @@
 -- Which sizes and which names a job may have.
-use Rattle.std.specs.Prelude.{ℕ, Bool, true, ◌&&◌, ◌||◌, List, [], ◌∷◌, length, ◌==◌, nat_le}
+use Rattle.std.specs.Prelude.{ℕ, Bool, ◌&&◌, ◌||◌, List, length, ◌==◌, nat_le}
+use Rattle.std.specs.List.{list_all}
 
 -- A size is 1 to 10,000 units.
 abbrev pub good_size : ℕ → Bool
@@ -11,8 +12,7 @@ name_byte b = (nat_le 97 b && nat_le b 122) || ((nat_le 48 b && nat_le b 57) || 
 
 -- Every byte is one of a name.
 abbrev pub name_bytes : List ℕ → Bool
-name_bytes [] = true
-name_bytes (b ∷ bs) = name_byte b && name_bytes bs
+name_bytes bs = list_all name_byte bs
 
 -- A name has 1 to 8 bytes.
 abbrev pub good_name : List ℕ → Bool

@@ -15,12 +15,7 @@ fn is_name_byte(byte: u8) -> bool
 fn are_name_bytes(bytes: &[u8]) -> bool
     ensures { result ≡ name_bytes bytes.now }
 {
-    for byte in bytes {
-        if !is_name_byte(*byte) {
-            return false;
-        }
-    }
-    true
+    bytes.iter().all(|byte| is_name_byte(*byte))
 }
 
 // Whether some bytes are a name: 1 to 8 of them, each a to z, 0 to 9 or a hyphen.
@@ -30,7 +25,7 @@ pub fn is_name(bytes: &[u8]) -> bool
     !bytes.is_empty() && bytes.len() <= MAX_NAME && are_name_bytes(bytes)
 }
 
-// A name in place: its bytes from the front, and 0 behind them.
+// A name in place: its bytes from the front, and 0 behind them. An array with its length beside it, since no call of a run may fail for want of memory.
 #[derive(Clone, Copy)]
 pub struct Name {
     pub(crate) bytes: [u8; MAX_NAME],
@@ -40,7 +35,7 @@ pub struct Name {
 impl Name {
     // The name of a line that no job has.
     pub const HYPHEN: Name = Name {
-        bytes: [b'-', 0, 0, 0, 0, 0, 0, 0],
+        bytes: *b"-\0\0\0\0\0\0\0",
         len: 1,
     };
 

@@ -4,43 +4,44 @@
 ghost use Rattle.std.specs.Prelude.{◌≡◌, Some};
 ghost use Rattle.refusal.specs.Causes.{number_of, text_of, ToldApart};
 
+use std::error::Error;
 use std::fmt;
 
-// Every cause for which a call of this repository is refused. A refused call alters nothing.
+// Every cause for which a call of this repository is refused, with the number under which it is reported. A refused call alters nothing.
 #[derive(Clone, Copy, PartialEq, Eq, Debug)]
 pub enum Refusal {
     // A size is 0 or above 10,000.
-    Size,
+    Size = 1,
     // A name breaks the rule of names.
-    Name,
+    Name = 2,
     // A lease is out.
-    LeaseOut,
+    LeaseOut = 3,
     // The book has 1,024 jobs already.
-    BookFull,
+    BookFull = 4,
     // The clock is 16,777,215, the last tick there is.
-    ClockEnd,
+    ClockEnd = 5,
     // Nobody is present, or a heap is empty.
-    Nobody,
+    Nobody = 6,
     // Somebody is present when an empty tick is asked for.
-    Somebody,
+    Somebody = 7,
     // The lease handed in is not the one that is out.
-    NotTheLease,
+    NotTheLease = 8,
     // A job number is above 1,023, or a handle is not below the capacity.
-    OutOfRange,
+    OutOfRange = 9,
     // A job number or a handle is held already.
-    Held,
+    Held = 10,
     // A job number or a handle is not held, or a line was not entered.
-    NotHeld,
+    NotHeld = 11,
     // A quantum is 0 or above 10,000.
-    Quantum,
+    Quantum = 12,
     // A trace has more than 65,536 bytes.
-    TraceTooLong,
+    TraceTooLong = 13,
     // A line has neither form, or no end.
-    LineForm,
+    LineForm = 14,
     // A tick is below that of the line before, or equal to it after a lost line.
-    TickOrder,
+    TickOrder = 15,
     // A report's buffer has fewer than 65,536 bytes.
-    BufferTooShort,
+    BufferTooShort = 16,
 }
 
 impl Refusal {
@@ -48,24 +49,7 @@ impl Refusal {
     pub fn number(&self) -> u8
         ensures { result ≡ number_of self.now }
     {
-        match self {
-            Refusal::Size => 1,
-            Refusal::Name => 2,
-            Refusal::LeaseOut => 3,
-            Refusal::BookFull => 4,
-            Refusal::ClockEnd => 5,
-            Refusal::Nobody => 6,
-            Refusal::Somebody => 7,
-            Refusal::NotTheLease => 8,
-            Refusal::OutOfRange => 9,
-            Refusal::Held => 10,
-            Refusal::NotHeld => 11,
-            Refusal::Quantum => 12,
-            Refusal::TraceTooLong => 13,
-            Refusal::LineForm => 14,
-            Refusal::TickOrder => 15,
-            Refusal::BufferTooShort => 16,
-        }
+        *self as u8
     }
 
     // The cause in words.
@@ -101,9 +85,9 @@ impl fmt::Display for Refusal {
     }
 }
 
+impl Error for Refusal {}
+
 // A law: a cause can be told from its number.
-pub fn numbers_differ() -> u8
+pub fn numbers_differ()
     ensures { ToldApart }
-{
-    0
-}
+{}

@@ -11,85 +11,61 @@ ghost use Rattle.schedule.specs.Computed.{ShortestChosen, SrptExists};
 ghost use Rattle.schedule.specs.Examples.{Examples};
 
 // A law: a legal schedule has one entry for each tick that ended, and gives no job more units than its size.
-pub fn legal_within_sizes() -> u8
+pub fn legal_within_sizes()
     ensures { LegalWithin }
-{
-    0
-}
+{}
 
 // A law: the occupancy total is the ticks that the jobs spent present, summed over the jobs, under any schedule.
-pub fn occupancy_identity() -> u8
+pub fn occupancy_identity()
     ensures { OccupancyIdentity }
-{
-    0
-}
+{}
 
 // A law: under every legal schedule the unfinished work is the sizes that entered less the units done.
-pub fn work_balance() -> u8
+pub fn work_balance()
     ensures { WorkBalance }
-{
-    0
-}
+{}
 
 // A law: all work-conserving schedules of one history have the same unfinished work, at every point.
-pub fn work_conserved() -> u8
+pub fn work_conserved()
     ensures { WorkConserved }
-{
-    0
-}
+{}
 
 // A law: the ticks that a job spent present are its sojourn once it is finished, and until then the clock less its arrival.
-pub fn sojourn_counted() -> u8
+pub fn sojourn_counted()
     ensures { SojournCounted }
-{
-    0
-}
+{}
 
 // A law: SRPT has at no point more jobs present than any legal schedule of the same history.
-pub fn srpt_keeps_fewest() -> u8
+pub fn srpt_keeps_fewest()
     ensures { SrptFewest }
-{
-    0
-}
+{}
 
 // A law: no legal schedule of the same history has a smaller occupancy total than SRPT.
-pub fn srpt_least_total() -> u8
+pub fn srpt_least_total()
     ensures { SrptLeastTotal }
-{
-    0
-}
+{}
 
 // A law: an SRPT schedule is work-conserving, and a work-conserving schedule is legal.
-pub fn srpt_is_legal() -> u8
+pub fn srpt_is_legal()
     ensures { SrptLegal }
-{
-    0
-}
+{}
 
 // A law: under first come, first served, a job that entered earlier finishes no later than one that entered later.
-pub fn first_in_first_out() -> u8
+pub fn first_in_first_out()
     ensures { FirstInFirstOut }
-{
-    0
-}
+{}
 
 // A law: the computed choice of SRPT is a present job with least remaining work, among equals the one with the smaller number.
-pub fn shortest_chosen() -> u8
+pub fn shortest_chosen()
     ensures { ShortestChosen }
-{
-    0
-}
+{}
 
 // A law: every history has an SRPT schedule.
-pub fn srpt_exists() -> u8
+pub fn srpt_exists()
     ensures { SrptExists }
-{
-    0
-}
+{}
 
 // Worked examples: the figures that the definitions give for small histories, by computing.
-pub fn examples() -> u8
+pub fn examples()
     ensures { Examples }
-{
-    0
-}
+{}
