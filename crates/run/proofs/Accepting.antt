@@ -1,23 +1,20 @@
--- What an accepted call says of the run, and which answers a tied run gives.
+-- What an accepted call says of the run, and that its discipline then takes part.
 use Rattle.std.proofs.Common.{◌≡◌, ℕ, ◌-◌, ◌<◌, Bool, true, false, cond, ◌&&◌, eqb, ltb, leb, List, get_or, Some, None, Ok, Err, Option, Result, sym, refl, ap, ◌∙◌, subst, arith}
 use Rattle.std.proofs.lemmas.Bool.Decides.{nat_tests}
 use Rattle.std.proofs.lemmas.Bool.{ltb-true, eqb-true}
 use Rattle.refusal.specs.declared.Refusal.{Refusal}
-use Rattle.refusal.specs.declared.Refusal.TheVariants.{Size, Name, LeaseOut, BookFull, ClockEnd, Nobody, Somebody, NotTheLease, OutOfRange, NotHeld}
-use Rattle.refusal.specs.Answers.{provided, and_then}
-use Rattle.refusal.proofs.Accepted.{ok_not_err, provided_ok, and_then_ok}
+use Rattle.refusal.specs.declared.Refusal.TheVariants.{Size, Name, LeaseOut, BookFull, ClockEnd, Nobody, Somebody, NotTheLease}
+use Rattle.refusal.specs.Answers.{provided}
+use Rattle.refusal.proofs.Accepted.{ok_not_err, provided_ok}
 use Rattle.job.specs.declared.name.Name.{Name as JobName}
 use Rattle.job.specs.Rules.{good_size, good_name}
 use Rattle.job.specs.Names.{name_of, spelled}
 use Rattle.discipline.specs.Meaning.{admit_answer, worked_answer, count_present}
 use Rattle.run.specs.declared.accounts.Accounts.{Accounts}
-use Rattle.run.specs.declared.accounts.LeaseState.{LeaseState}
-use Rattle.run.specs.declared.accounts.LeaseState.TheVariants.{Free, Out}
 use Rattle.run.specs.declared.lease.Lease.{Lease}
 use Rattle.run.specs.States.{State, Tied, Leased}
-use Rattle.run.specs.Steps.{is_free, is_out_on, is_the_lease, before_end, enter_rule, enter_answer, lease_on, take_answer, giving_back, hand_rule, done_rule, done_answer, pass_answer}
+use Rattle.run.specs.Steps.{is_free, is_out_on, is_the_lease, before_end, enter_rule, lease_on, take_answer, giving_back, hand_rule, done_rule, pass_answer}
 use Rattle.run.proofs.Keeping.{lefts_at}
-use Rattle.run.proofs.Ended.{present_below}
 
 -- ---- enter
 
@@ -31,8 +28,8 @@ pub record EnterAccepted (s : State) (n : List ℕ) (z k : ℕ) : Type 0 where
 same_ok : (k n : ℕ) → ◌≡◌ {A = Result ℕ Refusal} (Ok k) (Ok n) → k ≡ n
 same_ok k n e = cc
 
-rule_ok : (s : State) (n : List ℕ) (z k : ℕ) → Ok k ≡ enter_rule s n z → EnterAccepted s n z k
-rule_ok s n z k e =
+pub enter_ok : (s : State) (n : List ℕ) (z k : ℕ) → Ok k ≡ enter_rule s n z → EnterAccepted s n z k
+enter_ok s n z k e =
     let full = provided (ltb s.book.entered 1024) BookFull (Ok s.book.entered) in
     let free = provided (is_free s.accounts.lease) LeaseOut full in
     let a = provided_ok (good_size z) Size (provided (good_name n) Name free) k e in
@@ -40,11 +37,6 @@ rule_ok s n z k e =
     let c = provided_ok (is_free s.accounts.lease) LeaseOut full k b.1 in
     let d = provided_ok (ltb s.book.entered 1024) BookFull (Ok s.book.entered) k c.1 in
     record { size = a.0; name = b.0; free = c.0; room = ltb-true s.book.entered 1024 d.0; number = same_ok k s.book.entered d.1 }
-
-pub enter_ok : (s : State) (n : List ℕ) (z k : ℕ) → Ok k ≡ enter_answer s n z → EnterAccepted s n z k
-enter_ok s n z k e =
-    let a = and_then_ok (enter_rule s n z) _ k e in
-    rule_ok s n z k (and_then_ok (admit_answer s.present s.book.entered z) (enter_rule s n z) k a.1).1
 
 -- the next line of a tied run has no work left
 pub next_empty : (s : State) → Tied s → get_or s.present s.book.entered 0 ≡ 0
@@ -59,22 +51,9 @@ admit_by p n z l g e =
     let b : eqb (get_or p n 0) 0 ≡ true = grind (arith, nat_tests) in
     rw (a, g, b) refl
 
-enter_by : (q : Result (Unit {0}) Refusal) (r : Result ℕ Refusal) → ((k : ℕ) → Ok k ≡ r → q ≡ Ok tt) → and_then r (and_then q r) ≡ r
-enter_by q (Ok k) h = ap (λ (x : Result (Unit {0}) Refusal). and_then x (Ok k)) (h k refl)
-enter_by q (Err e) h = refl
-
 -- the discipline of a tied run takes the next job in
 pub admits : (s : State) (n : List ℕ) (z k : ℕ) → Tied s → Ok k ≡ enter_rule s n z → admit_answer s.present s.book.entered z ≡ Ok tt
-admits s n z k t e = let h = rule_ok s n z k e in admit_by s.present s.book.entered z h.room h.size (next_empty s t)
-
-pub enter_rules : (s : State) (n : List ℕ) (z : ℕ) → Tied s → enter_answer s n z ≡ enter_rule s n z
-enter_rules s n z t = enter_by (admit_answer s.present s.book.entered z) (enter_rule s n z) (λ k e. admits s n z k t e)
-
--- the discipline refuses the job: the run hands that refusal on
-pub admit_refused : (s : State) (n : List ℕ) (z k : ℕ) (e : Refusal) → Ok k ≡ enter_rule s n z → Err e ≡ admit_answer s.present s.book.entered z → Err e ≡ enter_answer s n z
-admit_refused s n z k e rule refused =
-    ap (λ (q : Result (Unit {0}) Refusal). and_then {T = ℕ} q (Ok k)) refused
-    ∙ ap (λ (r : Result ℕ Refusal). and_then r (and_then (admit_answer s.present s.book.entered z) r)) rule
+admits s n z k t e = let h = enter_ok s n z k e in admit_by s.present s.book.entered z h.room h.size (next_empty s t)
 
 -- a name that was made is good
 pub made_good : (bs : List ℕ) (w : JobName) → Some w ≡ cond (good_name bs) (Some (name_of bs)) None → spelled w ≡ bs → good_name (spelled w) ≡ true
@@ -116,56 +95,25 @@ given_ok l (Err x) u e = absurd (ok_not_err u (x, l) e)
 pub hand_ok : (s : State) (l : Lease) (u : Unit {0}) → Ok u ≡ done_rule s l → is_the_lease s.accounts l.mark l.tick l.job ≡ true
 hand_ok s l u e = let g = given_ok l (hand_rule s l) u e in (provided_ok (is_the_lease s.accounts l.mark l.tick l.job) NotTheLease (Ok tt) g.0 g.1).0
 
+on_job : (o : Option ℕ) (p : List ℕ) (x y : Bool) (j : ℕ) → (x && (y && is_out_on o j)) ≡ true → Leased o p → 0 < get_or p j 0
+on_job None p x y j e h = absurd (let z : (x && (y && false)) ≡ true = e in grind (arith, nat_tests))
+on_job (Some i) p x y j e h = let f : i ≡ j = grind (arith, nat_tests) in subst (λ k. 0 < get_or p k 0) f h
+
 pub record DoneAccepted (s : State) (l : Lease) : Type 0 where
   pub ours : is_the_lease s.accounts l.mark l.tick l.job ≡ true
   pub here : 0 < get_or s.present l.job 0
 
-pub done_ok : (s : State) (l : Lease) (u : Unit {0}) → Ok u ≡ done_answer s l → DoneAccepted s l
-done_ok s l u e =
-    let p = s.present in
-    let j = l.job in
-    let g = given_ok l (and_then (hand_rule s l) (worked_answer p j)) u e in
-    let a = and_then_ok (hand_rule s l) (worked_answer p j) g.0 g.1 in
-    let b = provided_ok (leb j 1023) OutOfRange (provided (ltb 0 (get_or p j 0)) NotHeld (Ok (get_or p j 0 - 1))) g.0 a.1 in
-    let c = provided_ok (ltb 0 (get_or p j 0)) NotHeld (Ok (get_or p j 0 - 1)) g.0 b.1 in
-    record {
-      ours = (provided_ok (is_the_lease s.accounts l.mark l.tick j) NotTheLease (Ok tt) a.0.0 a.0.1).0;
-      here = ltb-true 0 (get_or p j 0) c.0;
-    }
+pub done_ok : (s : State) (l : Lease) (u : Unit {0}) → Tied s → Ok u ≡ done_rule s l → DoneAccepted s l
+done_ok s l u t e =
+    let h = hand_ok s l u e in
+    record { ours = h; here = on_job s.accounts.lease s.present (eqb s.accounts.mark l.mark) (eqb s.accounts.clock l.tick) l.job h t.leased }
 
-on_job : (o : LeaseState) (p : List ℕ) (x y : Bool) (j : ℕ) → (x && (y && is_out_on o j)) ≡ true → Leased o p → 0 < get_or p j 0
-on_job Free p x y j e h = absurd (let z : (x && (y && false)) ≡ true = e in grind (arith, nat_tests))
-on_job (Out i) p x y j e h = let f : i ≡ j = grind (arith, nat_tests) in subst (λ k. 0 < get_or p k 0) f h
-
--- the job of the lease that is out is present in a tied run
-pub hand_present : (s : State) (l : Lease) → Tied s → is_the_lease s.accounts l.mark l.tick l.job ≡ true → 0 < get_or s.present l.job 0
-hand_present s l t e = on_job s.accounts.lease s.present (eqb s.accounts.mark l.mark) (eqb s.accounts.clock l.tick) l.job e t.leased
-
-worked_by : (p : List ℕ) (j : ℕ) → j < 1024 → 0 < get_or p j 0 → worked_answer p j ≡ Ok (get_or p j 0 - 1)
-worked_by p j l h =
+-- the discipline knows a job that is present
+pub works : (p : List ℕ) (j : ℕ) → j < 1024 → 0 < get_or p j 0 → worked_answer p j ≡ Ok (get_or p j 0 - 1)
+works p j l h =
     let a : leb j 1023 ≡ true = grind (arith, nat_tests) in
     let b : ltb 0 (get_or p j 0) ≡ true = grind (arith, nat_tests) in
     rw (a, b) refl
-
-done_by : (l : Lease) (v : ℕ) (q : Result ℕ Refusal) (r : Result (Unit {0}) Refusal) → ((u : Unit {0}) → Ok u ≡ r → q ≡ Ok v) → giving_back l (and_then r q) ≡ giving_back l r
-done_by l v q (Ok u) h = ap (λ (x : Result ℕ Refusal). giving_back l x) (h u refl)
-done_by l v q (Err e) h = refl
-
--- the discipline of a tied run knows the leased job
-pub works : (s : State) (l : Lease) (u : Unit {0}) → Tied s → Ok u ≡ hand_rule s l → worked_answer s.present l.job ≡ Ok (get_or s.present l.job 0 - 1)
-works s l u t e =
-    let j = l.job in
-    let h = hand_present s l t (provided_ok (is_the_lease s.accounts l.mark l.tick j) NotTheLease (Ok tt) u e).0 in
-    worked_by s.present j (present_below s.present j t.sound.long h) h
-
-pub done_rules : (s : State) (l : Lease) → Tied s → done_answer s l ≡ done_rule s l
-done_rules s l t = done_by l (get_or s.present l.job 0 - 1) (worked_answer s.present l.job) (hand_rule s l) (λ u e. works s l u t e)
-
--- the discipline refuses the unit: the run hands that refusal on, with the lease
-pub work_refused : (s : State) (l : Lease) (u : Unit {0}) (e : Refusal) → Ok u ≡ hand_rule s l → Err e ≡ worked_answer s.present l.job → Err (e, l) ≡ done_answer s l
-work_refused s l u e rule refused =
-    ap (λ (q : Result ℕ Refusal). giving_back l q) refused
-    ∙ ap (λ (r : Result (Unit {0}) Refusal). giving_back l (and_then r (worked_answer s.present l.job))) rule
 
 -- ---- pass
 

@@ -3,13 +3,14 @@ use Rattle.std.proofs.Common.{◌≡◌, ℕ, suc, ◌+◌, ◌-◌, ◌*◌, �
 use Rattle.std.proofs.lemmas.Bool.Decides.{nat_tests}
 use Rattle.std.proofs.lemmas.Bool.{cases_lt, cases_eq, ltb-true, ltb-false, lt-ltb}
 use Rattle.std.proofs.lemmas.List.{get_or_past, get_or-map, length-map, map-set, get_or-replicate, length-replicate, get_or-set_same, get_or-set_other, set_past}
+use Rattle.std.specs.Cmp.Lexicographic.{pointwise, same_text}
 use Rattle.job.specs.declared.name.Name.{Name}
 use Rattle.job.specs.Rules.{good_size, good_name}
 use Rattle.job.specs.Names.{spelled}
 use Rattle.run.specs.declared.line.Line.{Line}
 use Rattle.run.specs.declared.book.Book.{Book}
 use Rattle.run.specs.Lines.{lefts, unused, new_line, worked_line}
-use Rattle.run.specs.Kept.{same_bytes, is_unused, is_used, line_kept, LinesKept}
+use Rattle.run.specs.Kept.{is_unused, is_used, line_kept, LinesKept}
 use Rattle.run.specs.Steps.{blank_book, book_worked, book_entered}
 use Rattle.std.proofs.lemmas.List.Sums.{sum_by-cons}
 
@@ -58,7 +59,7 @@ abbrev good_named : Line → Bool
 good_named l = good_name (spelled l.name)
 
 abbrev hyphened : Line → Bool
-hyphened l = same_bytes l.name.bytes (45 ∷ replicate 7 0)
+hyphened l = pointwise eqb l.name.bytes (45 ∷ replicate 7 0)
 
 abbrev unit_done : Line → ℕ → Line
 unit_done l t = record { name = l.name; arrival = l.arrival; size = l.size; left = l.left - 1; finish = cond (eqb (l.left - 1) 0) t 0 }
@@ -105,24 +106,14 @@ finished n c k l lt h z =
     (λ u. let o = u.0 in absurd (omega arith))
     (either n c k l h)
 
-same_bytes_lem : (xs ys : List ℕ) → same_bytes xs ys ≡ true → xs ≡ ys
-same_bytes_lem [] [] e = refl
-same_bytes_lem [] (y ∷ ys) e = let z : ◌≡◌ {A = ℕ} 0 1 = cc in absurd (omega arith)
-same_bytes_lem (x ∷ xs) [] e = let z : ◌≡◌ {A = ℕ} 0 1 = cc in absurd (omega arith)
-same_bytes_lem (x ∷ xs) (y ∷ ys) e =
-    let h : x ≡ y = grind (arith, nat_tests) in
-    let t : same_bytes xs ys ≡ true = grind (arith, nat_tests) in
-    let r = same_bytes_lem xs ys t in
-    cc
-
 unused_by : (l : Line) (b : Bool) → (b && (eqb l.name.len 1 && (eqb l.arrival 0 && (eqb l.size 1 && (eqb l.left 0 && eqb l.finish 0))))) ≡ true
     → (b ≡ true) × (l.name.len ≡ 1) × (l.arrival ≡ 0) × (l.size ≡ 1) × (l.left ≡ 0) × (l.finish ≡ 0)
 unused_by l b e = (grind (arith, nat_tests), grind (arith, nat_tests), grind (arith, nat_tests), grind (arith, nat_tests), grind (arith, nat_tests), grind (arith, nat_tests))
 
 pub unused_is : (l : Line) → is_unused l ≡ true → l ≡ unused
 unused_is l e =
-    let p = unused_by l (same_bytes l.name.bytes (45 ∷ replicate 7 0)) e in
-    let b = same_bytes_lem l.name.bytes (45 ∷ replicate 7 0) p.0 in
+    let p = unused_by l (pointwise eqb l.name.bytes (45 ∷ replicate 7 0)) e in
+    let b = same_text l.name.bytes (45 ∷ replicate 7 0) (sym p.0) in
     λ i. record { name = record { bytes = b i; len = p.1 i }; arrival = p.2 i; size = p.3 i; left = p.4 i; finish = p.5 i }
 
 pub rest_unused : (n c k : ℕ) (l : Line) → n ≤ k → line_kept n c k l ≡ true → l ≡ unused

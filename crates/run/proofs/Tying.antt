@@ -1,27 +1,33 @@
--- Every call keeps a run tied: the jobs present stay the lines with left above 0.
-use Rattle.std.proofs.Common.{◌≡◌, ℕ, ◌-◌, ◌<◌, ◌≤◌, true, ◌≢◌, List, get_or, set, replicate, Some, None, Ok, Err, Option, sym, refl, ap, ◌∙◌, subst, arith}
+-- Every run is tied: the jobs present are the lines with left above 0. And so is every state that calls lead to.
+use Rattle.std.proofs.Common.{◌≡◌, ℕ, ◌-◌, ◌<◌, ◌≤◌, true, ◌≢◌, List, get_or, set, replicate, Some, None, Ok, Err, Option, Result, sym, refl, ap, ◌∙◌, subst, arith}
 use lib.LanesLaws.{map-replicate}
 use Rattle.std.proofs.lemmas.List.{map-set, get_or-set_other}
 use Rattle.discipline.specs.Meaning.{Sound}
 use Rattle.discipline.proofs.Admitted.{zero_at}
-use Rattle.run.specs.declared.accounts.LeaseState.{LeaseState}
-use Rattle.run.specs.declared.accounts.LeaseState.TheVariants.{Free, Out}
 use Rattle.run.specs.declared.book.Book.{Book}
 use Rattle.run.specs.declared.accounts.Accounts.{Accounts}
 use Rattle.run.specs.declared.line.Line.{Line}
 use Rattle.job.specs.Names.{name_of}
-use Rattle.run.specs.Lines.{unused, new_line, worked_line}
+use Rattle.run.specs.Lines.{unused, lefts, new_line, worked_line}
 use Rattle.run.specs.States.{State, Tied, Leased}
-use Rattle.run.specs.Steps.{is_free, blank_book, enter_after, done_after, idled, made_with}
+use Rattle.run.specs.Steps.{free_answer, is_free, blank_book, enter_after, done_after, idled, made_with}
 use Rattle.run.specs.Histories.{Event, enter, take, done, back, pass, Step}
-use Rattle.run.proofs.Keeping.{at_set, blank_at, lefts_worked}
+use Rattle.refusal.specs.declared.Refusal.{Refusal}
+use Rattle.refusal.specs.declared.Refusal.TheVariants.{LeaseOut}
+use Rattle.refusal.proofs.Accepted.{provided_ok}
+use Rattle.run.specs.Kept.{lease_kept}
+use Rattle.run.specs.declared.run.Run.{Run}
+use Rattle.run.specs.Runs.{meaning}
+use Rattle.discipline.specs.declared.Discipline.{Ghosts}
+use Rattle.std.proofs.lemmas.Bool.Decides.{nat_tests}
+use Rattle.run.proofs.Keeping.{at_set, blank_at, lefts_worked, rest_unused}
 use Rattle.run.proofs.Ended.{chosen_present}
 use Rattle.run.proofs.Accepting.{enter_ok, take_ok}
 
 -- no job is leased while the run is free
-free_leased : (o : LeaseState) (p : List ℕ) → is_free o ≡ true → Leased o p
-free_leased Free p e = tt
-free_leased (Out j) p e = let z : ◌≡◌ {A = ℕ} 0 1 = cc in absurd (omega arith)
+free_leased : (o : Option ℕ) (p : List ℕ) → is_free o ≡ true → Leased o p
+free_leased None p e = tt
+free_leased (Some j) p e = let z : ◌≡◌ {A = ℕ} 0 1 = cc in absurd (omega arith)
 
 enter_tied : (s : State) (n : List ℕ) (z : ℕ) (c : Option ℕ) → Tied s → is_free s.accounts.lease ≡ true → Sound (enter_after s n z c).present c → Tied (enter_after s n z c)
 enter_tied s n z c t free k =
@@ -73,8 +79,11 @@ step_tied (back l (Err x)) s s' t h q = to s' h.leaves t
 step_tied (pass (Ok u)) s s' t h q = to s' h.leaves (idle_tied s t)
 step_tied (pass (Err x)) s s' t h q = to s' h.leaves t
 
+pub blank_lefts : lefts blank_book.lines ≡ replicate 1024 0
+blank_lefts = map-replicate (λ (x : Line). x.left) 1024 unused
+
 pub made_tied : (m : ℕ) → Sound (made_with m).present (made_with m).choice → Tied (made_with m)
-made_tied m h = record { agrees = sym (map-replicate (λ (x : Line). x.left) 1024 unused); rest = λ k le. blank_at k; leased = tt; sound = h }
+made_tied m h = record { agrees = sym blank_lefts; rest = λ k le. blank_at k; leased = tt; sound = h }
 
 -- ---- making
 
@@ -86,3 +95,25 @@ nobody p (Some j) s e = let z : get_or p j 0 ≡ 0 = ap (λ (xs : List ℕ). get
 pub made_state : (p : List ℕ) (c : Option ℕ) (b : Book) (a : Accounts) → p ≡ replicate 1024 0 → c ≡ None → b ≡ blank_book
     → ◌≡◌ {A = State} (record { present = p; choice = c; book = b; accounts = a }) (record { present = replicate 1024 0; choice = None; book = blank_book; accounts = a })
 made_state p c b a e f h = cc
+
+-- ---- a run, by its type
+
+-- no job is leased while the run is free
+pub free_held : (a : Accounts) (p : List ℕ) (u : Unit {0}) → ◌≡◌ {A = Result (Unit {0}) Refusal} (Ok u) (free_answer a) → lease_kept a.lease p a.clock ≡ true
+free_held a p u e = by a.lease (provided_ok (is_free a.lease) LeaseOut (Ok tt) u e).0
+  where
+    by : (o : Option ℕ) → is_free o ≡ true → lease_kept o p a.clock ≡ true
+    by None f = refl
+    by (Some j) f = let z : ◌≡◌ {A = ℕ} 0 1 = cc in absurd (omega arith)
+
+leased_by : (o : Option ℕ) (p : List ℕ) (c : ℕ) → lease_kept o p c ≡ true → Leased o p
+leased_by None p c h = tt
+leased_by (Some j) p c h = grind (arith, nat_tests)
+
+pub tied_run : {D : Type 0} (d : Ghosts D) → ((x : D) → Sound (d.present x) (d.choice x)) → (r : Run D d) → Tied (meaning d r)
+tied_run d sound r = record {
+  agrees = r.agrees;
+  rest = λ k le. rest_unused r.book.entered r.accounts.clock k (get_or r.book.lines k unused) le (r.lines k);
+  leased = leased_by r.accounts.lease (d.present r.discipline) r.accounts.clock r.held;
+  sound = sound r.discipline;
+}

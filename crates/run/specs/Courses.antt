@@ -9,9 +9,9 @@ use Rattle.run.specs.Runs.{meaning, discipline_of, Moves, Untouched, UntouchedIf
 
 -- What a call does to the discipline of the run, by the clauses `moves` and `stays` of that call's contract.
 abbrev pub Conducts : {D : Type 0} → (d : Ghosts D) → Event → Run D d → Run D d → Type 0
-Conducts d (enter n z r) x y = IfOk r (λ k. Moves d (admitted k z) x y) × UntouchedIfRefused d x r y
+Conducts d (enter n z r) x y = IfOk r (λ k. Moves d (admitted k z) x y) × UntouchedIfRefused x r y
 Conducts d (take r) x y = Untouched x y
-Conducts d (done l r) x y = OnOk r (Moves d (worked l.job (slice_index (meaning d x).present l.job - 1)) x y) × UntouchedIfRefused d x r y
+Conducts d (done l r) x y = OnOk r (Moves d (worked l.job (slice_index (meaning d x).present l.job - 1)) x y) × UntouchedIfRefused x r y
 Conducts d (back l r) x y = Untouched x y
 Conducts d (pass r) x y = Untouched x y
 

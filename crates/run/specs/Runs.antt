@@ -4,7 +4,7 @@ use Rattle.refusal.specs.Answers.{KeptIfRefused}
 use Rattle.discipline.specs.declared.Discipline.{Ghosts}
 use Rattle.discipline.specs.Meaning.{Move}
 use Rattle.run.specs.declared.run.Run.{Run}
-use Rattle.run.specs.States.{State, Tied}
+use Rattle.run.specs.States.{State}
 
 -- What a run holds, its discipline read by the discipline's own meaning.
 abbrev pub meaning : {D : Type 0} → (d : Ghosts D) → Run D d → State
@@ -14,17 +14,13 @@ meaning d r = record { present = d.present r.discipline; choice = d.choice r.dis
 abbrev pub discipline_of : {D : Type 0} {d : Ghosts D} → Run D d → D
 discipline_of r = r.discipline
 
--- A run that is tied stays tied from x to y.
-abbrev pub StaysTied : {D : Type 0} → (d : Ghosts D) → Run D d → Run D d → Type 0
-StaysTied d x y = Tied (meaning d x) → Tied (meaning d y)
-
 -- From x to y the discipline is untouched.
 abbrev pub Untouched : {D : Type 0} {d : Ghosts D} → Run D d → Run D d → Type 0
 Untouched x y = discipline_of y ≡ discipline_of x
 
--- The same of a tied run that refuses a call.
-abbrev pub UntouchedIfRefused : {D T E : Type 0} → (d : Ghosts D) → Run D d → Result T E → Run D d → Type 0
-UntouchedIfRefused d x r y = Tied (meaning d x) → KeptIfRefused r (discipline_of x) (discipline_of y)
+-- The same where the call is refused.
+abbrev pub UntouchedIfRefused : {D T E : Type 0} {d : Ghosts D} → Run D d → Result T E → Run D d → Type 0
+UntouchedIfRefused x r y = KeptIfRefused r (discipline_of x) (discipline_of y)
 
 -- From x to y the discipline moves by its own rule.
 abbrev pub Moves : {D : Type 0} → (d : Ghosts D) → Move → Run D d → Run D d → Type 0

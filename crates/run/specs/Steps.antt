@@ -2,32 +2,28 @@
 use Rattle.std.specs.Prelude.{◌≡◌, ℕ, ◌+◌, ◌-◌, max, Bool, true, false, ◌&&◌, List, replicate, Some, None, Ok, Err, Option, Result, ◌==◌, nat_lt, slice_index, slice_index_or, slice_set}
 use Rattle.refusal.specs.declared.Refusal.{Refusal}
 use Rattle.refusal.specs.declared.Refusal.TheVariants.{Size, Name, LeaseOut, BookFull, ClockEnd, Nobody, Somebody, NotTheLease}
-use Rattle.refusal.specs.Answers.{provided, and_then, if_accepted}
+use Rattle.refusal.specs.Answers.{provided, if_accepted}
 use Rattle.job.specs.declared.name.Name.{Name as JobName}
 use Rattle.job.specs.Rules.{good_size, good_name}
 use Rattle.job.specs.Names.{name_of}
-use Rattle.discipline.specs.Meaning.{admit_answer, worked_answer, count_present}
+use Rattle.discipline.specs.Meaning.{count_present}
 use Rattle.run.specs.declared.book.Book.{Book}
 use Rattle.run.specs.declared.lease.Lease.{Lease}
 use Rattle.run.specs.declared.accounts.Accounts.{Accounts}
-use Rattle.run.specs.declared.accounts.Call.{Call}
-use Rattle.run.specs.declared.accounts.Call.TheVariants.{Enter, Take, Pass, HandIn}
-use Rattle.run.specs.declared.accounts.LeaseState.{LeaseState}
-use Rattle.run.specs.declared.accounts.LeaseState.TheVariants.{Free, Out}
 use Rattle.run.specs.Lines.{unused, worked_line, new_line}
 use Rattle.run.specs.States.{State}
 
 -- ---- the accounts
 
 -- No lease is out.
-abbrev pub is_free : LeaseState → Bool
-is_free Free = true
-is_free (Out j) = false
+abbrev pub is_free : Option ℕ → Bool
+is_free None = true
+is_free (Some j) = false
 
 -- A lease is out, on job j.
-abbrev pub is_out_on : LeaseState → ℕ → Bool
-is_out_on Free j = false
-is_out_on (Out o) j = o == j
+abbrev pub is_out_on : Option ℕ → ℕ → Bool
+is_out_on None j = false
+is_out_on (Some o) j = o == j
 
 -- The lease that is out has mark m, tick t and job j.
 abbrev pub is_the_lease : Accounts → ℕ → ℕ → ℕ → Bool
@@ -37,19 +33,20 @@ is_the_lease a m t j = a.mark == m && (a.clock == t && is_out_on a.lease j)
 abbrev pub before_end : Accounts → Bool
 before_end a = nat_lt a.clock 16777215
 
--- Whether a call may go on while the lease is as it is.
-abbrev pub may_answer : Accounts → Call → Result (Unit {0}) Refusal
-may_answer a Enter = provided (is_free a.lease) LeaseOut (Ok tt)
-may_answer a Take = provided (is_free a.lease) LeaseOut (provided (before_end a) ClockEnd (Ok tt))
-may_answer a Pass = provided (is_free a.lease) LeaseOut (provided (before_end a) ClockEnd (Ok tt))
-may_answer a (HandIn m t j) = provided (is_the_lease a m t j) NotTheLease (Ok tt)
+-- What is answered while a lease is out.
+abbrev pub free_answer : Accounts → Result (Unit {0}) Refusal
+free_answer a = provided (is_free a.lease) LeaseOut (Ok tt)
+
+-- Whether a tick can be begun.
+abbrev pub tick_answer : Accounts → Result (Unit {0}) Refusal
+tick_answer a = provided (is_free a.lease) LeaseOut (provided (before_end a) ClockEnd (Ok tt))
 
 -- A tick ends with n jobs present: n is added to the total, most is raised to it, and the clock rises by one.
 abbrev pub ended : Accounts → ℕ → Accounts
-ended a n = record { mark = a.mark; clock = a.clock + 1; total = a.total + n; most = max a.most n; lease = Free }
+ended a n = record { mark = a.mark; clock = a.clock + 1; total = a.total + n; most = max a.most n; lease = None }
 
 -- The same accounts with another state of the lease.
-abbrev pub leasing : Accounts → LeaseState → Accounts
+abbrev pub leasing : Accounts → Option ℕ → Accounts
 leasing a l = record { mark = a.mark; clock = a.clock; total = a.total; most = a.most; lease = l }
 
 -- ---- making
@@ -64,7 +61,7 @@ made_with m = record {
   present = replicate 1024 0;
   choice = None;
   book = blank_book;
-  accounts = record { mark = m; clock = 0; total = 0; most = 0; lease = Free };
+  accounts = record { mark = m; clock = 0; total = 0; most = 0; lease = None };
 }
 
 -- ---- enter
@@ -77,10 +74,6 @@ enter_rule s n z =
     (provided (is_free s.accounts.lease) LeaseOut
     (provided (nat_lt s.book.entered 1024) BookFull
     (Ok s.book.entered))))
-
--- The same for a run whose discipline might not take the job in: then the discipline's refusal comes last.
-abbrev pub enter_answer : State → List ℕ → ℕ → Result ℕ Refusal
-enter_answer s n z = and_then (enter_rule s n z) (and_then (admit_answer s.present s.book.entered z) (enter_rule s n z))
 
 -- The next line is that of a job that arrives in tick t.
 abbrev pub book_entered : Book → JobName → ℕ → ℕ → Book
@@ -97,7 +90,7 @@ enter_after s n z c = record {
 
 -- What enter does to a run; only the choice that it leaves is open.
 pub record Enters (s : State) (n : List ℕ) (z : ℕ) (r : Result ℕ Refusal) (s' : State) : Type 0 where
-  pub answers : r ≡ enter_answer s n z
+  pub answers : r ≡ enter_rule s n z
   pub leaves : s' ≡ if_accepted r (enter_after s n z s'.choice) s
 
 -- ---- take
@@ -116,7 +109,7 @@ take_answer s =
 
 -- A run after the lease is given: it is out, and nothing else has changed.
 abbrev pub take_after : State → Result Lease Refusal → State
-take_after s (Ok l) = record { present = s.present; choice = s.choice; book = s.book; accounts = leasing s.accounts (Out l.job) }
+take_after s (Ok l) = record { present = s.present; choice = s.choice; book = s.book; accounts = leasing s.accounts (Some l.job) }
 take_after s (Err e) = s
 
 -- What take does to a run.
@@ -135,13 +128,9 @@ giving_back l (Err e) = Err (e, l)
 abbrev pub hand_rule : State → Lease → Result (Unit {0}) Refusal
 hand_rule s l = provided (is_the_lease s.accounts l.mark l.tick l.job) NotTheLease (Ok tt)
 
--- What done answers, and back always.
+-- What done and back answer.
 abbrev pub done_rule : State → Lease → Result (Unit {0}) (Refusal × Lease)
 done_rule s l = giving_back l (hand_rule s l)
-
--- The same for a run whose discipline might not know the leased job: then the discipline's refusal comes last.
-abbrev pub done_answer : State → Lease → Result (Unit {0}) (Refusal × Lease)
-done_answer s l = giving_back l (and_then (hand_rule s l) (worked_answer s.present l.job))
 
 -- One unit done on the line of job j in tick t; no other line changes.
 abbrev pub book_worked : Book → ℕ → ℕ → Book
@@ -158,7 +147,7 @@ done_after s j c = record {
 
 -- What done does to a run; only the choice that it leaves is open.
 pub record Dones (s : State) (l : Lease) (r : Result (Unit {0}) (Refusal × Lease)) (s' : State) : Type 0 where
-  pub answers : r ≡ done_answer s l
+  pub answers : r ≡ done_rule s l
   pub leaves : s' ≡ if_accepted r (done_after s l.job s'.choice) s
 
 -- ---- back and pass

@@ -2,11 +2,11 @@
 ghost use Rattle.std.specs.Prelude.{◌≡◌, ◌-◌, ◌<◌, IfOk, IfErr, Ok, OnOk, slice_index};
 ghost use Rattle.discipline.specs.Meaning.{cleared, admitted, worked};
 ghost use Rattle.run.specs.States.{Tied};
-ghost use Rattle.run.specs.Steps.{Enters, Takes, Dones, Backs, Passes, enter_rule, done_rule, made_with};
+ghost use Rattle.run.specs.Steps.{Enters, Takes, Dones, Backs, Passes, done_rule, made_with};
 ghost use Rattle.run.specs.Laws.{AlwaysLawful};
-ghost use Rattle.run.specs.Runs.{meaning, discipline_of, StaysTied, Untouched, UntouchedIfRefused, Moves};
+ghost use Rattle.run.specs.Runs.{meaning, discipline_of, Untouched, UntouchedIfRefused, Moves};
 
-use crate::accounts::{Accounts, Call, LeaseState};
+use crate::accounts::Accounts;
 use crate::book::Book;
 use crate::lease::Lease;
 use crate::run::Run;
@@ -14,18 +14,6 @@ use discipline::Discipline;
 use job::name::Name;
 use job::{MAX_JOBS, is_size};
 use refusal::Refusal;
-
-impl Lease {
-    fn call(&self) -> Call
-        ensures { result ≡ Call.HandIn self.now.mark self.now.tick self.now.job }
-    {
-        Call::HandIn {
-            mark: self.mark,
-            tick: self.tick,
-            job: self.job,
-        }
-    }
-}
 
 impl<D: Discipline> Run<D> {
     // A run with no job yet, over a discipline that it clears first. Whatever calls follow, it is lawful.
@@ -44,7 +32,7 @@ impl<D: Discipline> Run<D> {
                 clock: 0,
                 total: 0,
                 most: 0,
-                lease: LeaseState::Free,
+                lease: None,
             },
         }
     }
@@ -53,10 +41,8 @@ impl<D: Discipline> Run<D> {
     // Refused, in this order: the size, the name, a lease that is out, a full book.
     pub fn enter(&mut self, name: &[u8], size: u32) -> Result<u32, Refusal>
         ensures does { Enters (meaning D.Discipline self.old) name.now size result (meaning D.Discipline self.new) }
-        ensures rules { Tied (meaning D.Discipline self.old) → result ≡ enter_rule (meaning D.Discipline self.old) name.now size }
-        ensures ties { StaysTied D.Discipline self.old self.new }
         ensures moves { IfOk result (λ k. Moves D.Discipline (admitted k size) self.old self.new) }
-        ensures stays { UntouchedIfRefused D.Discipline self.old result self.new }
+        ensures stays { UntouchedIfRefused self.old result self.new }
     {
         if !is_size(size) {
             return Err(Refusal::Size);
@@ -64,12 +50,14 @@ impl<D: Discipline> Run<D> {
         let Some(name) = Name::new(name) else {
             return Err(Refusal::Name);
         };
-        self.accounts.may(Call::Enter)?;
+        self.accounts.is_free()?;
         let number = self.book.entered;
         if number >= MAX_JOBS {
             return Err(Refusal::BookFull);
         }
-        self.discipline.admit(number as u32, size)?;
+        let Ok(()) = self.discipline.admit(number as u32, size) else {
+            unreachable()
+        };
         self.book.fill(name, self.accounts.clock, size);
         Ok(number as u32)
     }
@@ -80,14 +68,11 @@ impl<D: Discipline> Run<D> {
         ensures does { Takes (meaning D.Discipline self.old) result (meaning D.Discipline self.new) }
         ensures ours { IfOk result (λ lease. done_rule (meaning D.Discipline self.new) lease ≡ Ok tt) }
         ensures ends { IfOk result (λ lease. lease.tick < 16777215) }
-        ensures ties { StaysTied D.Discipline self.old self.new }
         ensures stays { Untouched self.old self.new }
     {
-        self.accounts.may(Call::Take)?;
-        let Ok(job) = self.discipline.choose() else {
-            return Err(Refusal::Nobody);
-        };
-        self.accounts.lease = LeaseState::Out(job);
+        self.accounts.may_tick()?;
+        let job = self.discipline.choose()?;
+        self.accounts.lease = Some(job);
         Ok(Lease {
             mark: self.accounts.mark,
             tick: self.accounts.clock,
@@ -99,19 +84,17 @@ impl<D: Discipline> Run<D> {
     // back, unless it is the one that is out.
     pub fn done(&mut self, lease: Lease) -> Result<(), (Refusal, Lease)>
         ensures does { Dones (meaning D.Discipline self.old) lease result (meaning D.Discipline self.new) }
-        ensures rules { Tied (meaning D.Discipline self.old) → result ≡ done_rule (meaning D.Discipline self.old) lease }
         ensures unspent { IfErr result (λ refused. refused.1 ≡ lease) }
-        ensures ties { StaysTied D.Discipline self.old self.new }
         ensures moves { OnOk result (Moves D.Discipline (worked lease.job (slice_index (meaning D.Discipline self.old).present lease.job - 1)) self.old self.new) }
-        ensures stays { UntouchedIfRefused D.Discipline self.old result self.new }
+        ensures stays { UntouchedIfRefused self.old result self.new }
     {
-        if let Err(cause) = self.accounts.may(lease.call()) {
-            return Err((cause, lease));
+        if !self.accounts.gave(&lease) {
+            return Err((Refusal::NotTheLease, lease));
         }
         let present = self.present();
-        if let Err(cause) = self.discipline.worked(lease.job) {
-            return Err((cause, lease));
-        }
+        let Ok(_) = self.discipline.worked(lease.job) else {
+            unreachable()
+        };
         self.book.work(lease.job as usize, lease.tick);
         lease.spend();
         self.accounts.end(present);
@@ -122,11 +105,10 @@ impl<D: Discipline> Run<D> {
     pub fn back(&mut self, lease: Lease) -> Result<(), (Refusal, Lease)>
         ensures does { Backs (meaning D.Discipline self.old) lease result (meaning D.Discipline self.new) }
         ensures unspent { IfErr result (λ refused. refused.1 ≡ lease) }
-        ensures ties { StaysTied D.Discipline self.old self.new }
         ensures stays { Untouched self.old self.new }
     {
-        if let Err(cause) = self.accounts.may(lease.call()) {
-            return Err((cause, lease));
+        if !self.accounts.gave(&lease) {
+            return Err((Refusal::NotTheLease, lease));
         }
         lease.spend();
         let present = self.present();
@@ -138,10 +120,9 @@ impl<D: Discipline> Run<D> {
     // somebody present.
     pub fn pass(&mut self) -> Result<(), Refusal>
         ensures does { Passes (meaning D.Discipline self.old) result (meaning D.Discipline self.new) }
-        ensures ties { StaysTied D.Discipline self.old self.new }
         ensures stays { Untouched self.old self.new }
     {
-        self.accounts.may(Call::Pass)?;
+        self.accounts.may_tick()?;
         let present = self.present();
         if present > 0 {
             return Err(Refusal::Somebody);

@@ -10,7 +10,6 @@ mod questions;
 pub mod run;
 #[cfg(test)]
 mod tests;
-mod ticks;
 
 pub use lease::Lease;
 pub use line::Line;

@@ -36,11 +36,7 @@ impl<D: Discipline> Run<D> {
     pub fn unfinished(&self) -> u32
         ensures { result ≡ unfinished_work (meaning D.Discipline self.now).book }
     {
-        let mut sum = 0;
-        for line in &self.book.lines {
-            sum += line.left;
-        }
-        sum
+        self.book.lines.iter().map(|line| line.left).sum()
     }
 
     // The occupancy total: the jobs present, summed over the ticks that have ended.
@@ -72,23 +68,14 @@ impl<D: Discipline> Run<D> {
     pub fn sojourn(&self, number: u32) -> Result<u32, Refusal>
         ensures { result ≡ sojourn_answer (meaning D.Discipline self.now).book number }
     {
-        let at = number as usize;
-        if at < self.book.entered {
-            Ok(self.book.lines[at].sojourn())
-        } else {
-            Err(Refusal::NotHeld)
-        }
+        Ok(self.book.line(number)?.sojourn())
     }
 
     // Copies the line of job `number` into one handed over. Refused: a job that has not entered.
     pub fn line(&self, number: u32, into: &mut Line) -> Result<(), Refusal>
         ensures { Copies (meaning D.Discipline self.now).book number into.old result into.new }
     {
-        let at = number as usize;
-        if at >= self.book.entered {
-            return Err(Refusal::NotHeld);
-        }
-        *into = self.book.lines[at];
+        *into = *self.book.line(number)?;
         Ok(())
     }
 }

@@ -11,7 +11,7 @@ sojourn-requires g c =
     let r = c.args.self.now in
     let k = c.loop-line.line-index in
     let lt : k < r.book.entered = in_front r.book r.long r.many k c.loop-line-test.true in
-    sojourn_fits r.book r.long r.many k r.accounts.clock r.lines r.clock lt _
+    sojourn_fits r.book r.long r.many k r.accounts.clock r.lines r.figures.0 lt _
     (line_in_front r.book r.long r.many k lt ∙ line_at r.book r.long r.many k lt)
 
 pub loop-line-preserved : goal.loop-line-preserved

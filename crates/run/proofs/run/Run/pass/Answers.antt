@@ -1,24 +1,21 @@
-use Rattle.std.proofs.Common.{◌≤◌, sym, subst}
-use Rattle.run.specs.declared.accounts.Accounts.{Accounts}
 use Rattle.run.proofs.Keeping.{later_lines}
-use Rattle.run.proofs.Ended.{count_few, pass_clock, end_clock, end_total, end_most, end_lines, end_held}
+use Rattle.run.proofs.Ended.{few_present, tick_clock, end_figures, end_lines, end_held}
 use Rattle.run.proofs.run.Run.pass.Goals as goal
 
 pub invariant_of-self : goal.invariant_of-self
 invariant_of-self g c =
     let r = c.args.self.now in
-    let a : Accounts = r.accounts in
-    let a' : Accounts = c.end.new.self in
+    let p = g.D.Discipline.present r.discipline in
+    let a = r.accounts in
+    let a' = c.end.new.self in
     let n = c.present-present.result in
-    let f = c.end.ensures in
-    let few : n ≤ 1024 = subst (λ n. n ≤ 1024) (sym c.present-present.ensures) (count_few _ (g.met.D.Discipline.sound r.discipline).long) in
-    let lt = pass_clock a c.in_ok-may.field-0 c.in_ok-may.ensures in
+    let few = few_present p n (g.met.D.Discipline.sound r.discipline).long c.present-present.ensures in
+    let e = c.end.ensures in
     record {
+      agrees = r.agrees;
       long = r.long;
       many = r.many;
-      lines = end_lines a a' n few f r.book (later_lines r.book a.clock r.lines);
-      clock = end_clock a a' n few f lt;
-      total = end_total a a' n few f r.total;
-      most = end_most a a' n few f r.most;
-      held = end_held a a' n few f;
+      lines = end_lines a a' n few e r.book (later_lines r.book a.clock r.lines);
+      figures = end_figures a a' n few e (tick_clock a c.in_ok-may_tick.field-0 c.in_ok-may_tick.ensures) r.figures;
+      held = end_held a a' n few e p;
     }
