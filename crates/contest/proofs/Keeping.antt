@@ -8,8 +8,6 @@ use Rattle.job.specs.Names.{name_of}
 use Rattle.discipline.specs.Meaning.{count_present}
 use Rattle.discipline.proofs.Admitted.{zero_at}
 use Rattle.run.specs.declared.accounts.Accounts.{Accounts}
-use Rattle.run.specs.declared.accounts.LeaseState.{LeaseState}
-use Rattle.run.specs.declared.accounts.LeaseState.TheVariants.{Free, Out}
 use Rattle.run.specs.declared.lease.Lease.{Lease}
 use Rattle.run.specs.Lines.{unused}
 use Rattle.run.specs.States.{State, Tied}
@@ -29,9 +27,9 @@ use Rattle.contest.proofs.Counts.{none_counted, Table, table_count, table_enter,
 use Rattle.contest.proofs.Lines.{Booked, booked_enter, booked_worked, booked_empty, booked_lost}
 
 -- The lease k is the one that the accounts have out, and its job keeps the rule of service R.
-abbrev pub Held : Rule → History → Schedule → Accounts → LeaseState → Option Lease → Type 0
-Held R h o a Free k = k ≡ None
-Held R h o a (Out j) k = (k ≡ Some (record { mark = a.mark; tick = a.clock; job = j })) × R h o (job j)
+abbrev pub Held : Rule → History → Schedule → Accounts → Option ℕ → Option Lease → Type 0
+Held R h o a None k = k ≡ None
+Held R h o a (Some j) k = (k ≡ Some (record { mark = a.mark; tick = a.clock; job = j })) × R h o (job j)
 
 -- What a run made with mark m keeps, after the history h under its own schedule o, with the lease k out.
 pub record Kept (R : Rule) (m : ℕ) (h : History) (o : Schedule) (k : Option Lease) (s : State) : Type 0 where
@@ -48,19 +46,19 @@ pub record Kept (R : Rule) (m : ℕ) (h : History) (o : Schedule) (k : Option Le
 
 -- ---- the lease
 
-free_held : (R : Rule) (h h' : History) (o o' : Schedule) (a : Accounts) (w : LeaseState) (k : Option Lease) → is_free w ≡ true → Held R h o a w k → Held R h' o' a w k
-free_held R h h' o o' a Free k f e = e
-free_held R h h' o o' a (Out j) k f e = let z : ◌≡◌ {A = ℕ} 0 1 = cc in absurd (omega arith)
+free_held : (R : Rule) (h h' : History) (o o' : Schedule) (a : Accounts) (w : Option ℕ) (k : Option Lease) → is_free w ≡ true → Held R h o a w k → Held R h' o' a w k
+free_held R h h' o o' a None k f e = e
+free_held R h h' o o' a (Some j) k f e = let z : ◌≡◌ {A = ℕ} 0 1 = cc in absurd (omega arith)
 
-free_none : (R : Rule) (h : History) (o : Schedule) (a : Accounts) (w : LeaseState) (k : Option Lease) → is_free w ≡ true → Held R h o a w k → k ≡ None
-free_none R h o a Free k f e = e
-free_none R h o a (Out j) k f e = let z : ◌≡◌ {A = ℕ} 0 1 = cc in absurd (omega arith)
+free_none : (R : Rule) (h : History) (o : Schedule) (a : Accounts) (w : Option ℕ) (k : Option Lease) → is_free w ≡ true → Held R h o a w k → k ≡ None
+free_none R h o a None k f e = e
+free_none R h o a (Some j) k f e = let z : ◌≡◌ {A = ℕ} 0 1 = cc in absurd (omega arith)
 
 -- the job of a lease that is handed in and accepted keeps the rule
-held-rule : (R : Rule) (h : History) (o : Schedule) (a : Accounts) (w : LeaseState) (k : Option Lease) (b c : Bool) (j : ℕ)
+held-rule : (R : Rule) (h : History) (o : Schedule) (a : Accounts) (w : Option ℕ) (k : Option Lease) (b c : Bool) (j : ℕ)
     → Held R h o a w k → (b && (c && is_out_on w j)) ≡ true → R h o (job j)
-held-rule R h o a Free k b c j e q = absurd (let z : (b && (c && false)) ≡ true = q in grind (arith, nat_tests))
-held-rule R h o a (Out i) k b c j e q = let f : i ≡ j = grind (arith, nat_tests) in subst (λ n. R h o (job n)) f e.1
+held-rule R h o a None k b c j e q = absurd (let z : (b && (c && false)) ≡ true = q in grind (arith, nat_tests))
+held-rule R h o a (Some i) k b c j e q = let f : i ≡ j = grind (arith, nat_tests) in subst (λ n. R h o (job n)) f e.1
 
 -- ---- sizes
 
@@ -187,7 +185,7 @@ module _ (R : Rule) (permits : (h : History) (o : Schedule) (e : Entry) → R h 
         (take_kept m (history es) (own_schedule es) (lease_out es) s t q l a.given (picks s (history es) (own_schedule es) l.job c t q.table a.chosen))
     step_kept (take (Err x)) es s s' t c q p = same_kept m (history es) (own_schedule es) (lease_out es) s t q s' p.leaves
     step_kept (done l (Ok u)) es s s' t c q p =
-        let a = done_ok s l u p.answers in
+        let a = done_ok s l u t p.answers in
         subst (λ (x : State). Kept R m (S.tick ∷ history es) (job l.job ∷ own_schedule es) None x) (sym p.leaves)
         (done_kept m (history es) (own_schedule es) (lease_out es) s t q l.job s'.choice
         (held-rule R (history es) (own_schedule es) s.accounts s.accounts.lease (lease_out es) (eqb s.accounts.mark l.mark) (eqb s.accounts.clock l.tick) l.job q.held a.ours)

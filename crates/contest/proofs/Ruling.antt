@@ -8,15 +8,12 @@ use Rattle.refusal.specs.Answers.{provided, and_then}
 use Rattle.job.specs.Rules.{good_size, good_name}
 use Rattle.discipline.specs.Meaning.{count_present}
 use Rattle.run.specs.declared.accounts.Accounts.{Accounts}
-use Rattle.run.specs.declared.accounts.LeaseState.{LeaseState}
-use Rattle.run.specs.declared.accounts.LeaseState.TheVariants.{Free, Out}
 use Rattle.run.specs.declared.lease.Lease.{Lease}
 use Rattle.run.specs.declared.line.Line.{Line}
 use Rattle.run.specs.States.{State, Tied}
 use Rattle.run.specs.Questions.{unfinished_work}
 use Rattle.run.specs.Steps.{is_free, is_out_on, is_the_lease, before_end, lease_on, giving_back, done_rule}
 use Rattle.run.specs.Histories.{Event, Step, ticks, units, sizes}
-use Rattle.run.proofs.Accepting.{enter_rules, done_rules}
 use Rattle.schedule.specs.Histories.{History}
 use Rattle.schedule.specs.Schedules.{Schedule, Rule}
 use Rattle.contest.specs.Calls.{Hand, own, stray, Call}
@@ -59,12 +56,12 @@ hand_verdict false l = refl
 
 -- ---- the lease that is out, and one that is not
 
-out_is : (R : Rule) (h : History) (o : Schedule) (a : Accounts) (w : LeaseState) (k : Option Lease) → Held R h o a w k → is_free w ≡ not (is_some k)
-out_is R h o a Free k e = sym (ap (λ (x : Option Lease). not (is_some x)) e)
-out_is R h o a (Out j) k e = sym (ap (λ (x : Option Lease). not (is_some x)) e.0)
+out_is : (R : Rule) (h : History) (o : Schedule) (a : Accounts) (w : Option ℕ) (k : Option Lease) → Held R h o a w k → is_free w ≡ not (is_some k)
+out_is R h o a None k e = sym (ap (λ (x : Option Lease). not (is_some x)) e)
+out_is R h o a (Some j) k e = sym (ap (λ (x : Option Lease). not (is_some x)) e.0)
 
 own_is : (a : Accounts) (j : ℕ) (l : Lease) → l ≡ record { mark = a.mark; tick = a.clock; job = j }
-    → (eqb a.mark l.mark && (eqb a.clock l.tick && is_out_on (Out j) l.job)) ≡ true
+    → (eqb a.mark l.mark && (eqb a.clock l.tick && is_out_on (Some j) l.job)) ≡ true
 own_is a j l e =
     let x = eq-eqb a.mark l.mark (sym (ap (λ (y : Lease). y.mark) e)) in
     let y = eq-eqb a.clock l.tick (sym (ap (λ (y : Lease). y.tick) e)) in
@@ -75,10 +72,10 @@ pub stray_is_not : (a : Accounts) (l : Lease) → (l.mark ≡ a.mark → ⊥) �
 stray_is_not a l n = rw (ne_eqb a.mark l.mark (λ e. n (sym e)))
 
 -- the lease that is out is the one that done and back take
-pub lease_is : (R : Rule) (h : History) (o : Schedule) (a : Accounts) (w : LeaseState) (k : Option Lease) (l : Lease)
+pub lease_is : (R : Rule) (h : History) (o : Schedule) (a : Accounts) (w : Option ℕ) (k : Option Lease) (l : Lease)
     → Held R h o a w k → k ≡ Some l → (eqb a.mark l.mark && (eqb a.clock l.tick && is_out_on w l.job)) ≡ true
-lease_is R h o a Free k l e q = let z : ◌≡◌ {A = ℕ} 0 1 = cc in absurd (omega arith)
-lease_is R h o a (Out j) k l e q = let f : l ≡ record { mark = a.mark; tick = a.clock; job = j } = cc e.0 in own_is a j l f
+lease_is R h o a None k l e q = let z : ◌≡◌ {A = ℕ} 0 1 = cc in absurd (omega arith)
+lease_is R h o a (Some j) k l e q = let f : l ≡ record { mark = a.mark; tick = a.clock; job = j } = cc e.0 in own_is a j l f
 
 hand_rule_lem : (R : Rule) (h : History) (o : Schedule) (a : Accounts) (k : Option Lease) (b : Hand) (l : Lease) (v : Seen)
     → Held R h o a a.lease k → Handed a.mark b k l → v.leased ≡ is_some k
@@ -112,7 +109,7 @@ module _ (R : Rule) (m : ℕ) (es : List Event) (s s' : State) (t : Tied s) (q :
 
   pub answered : (c : Call) (e : Event) → Asks m (lease_out es) c e → Step e s s' → verdict e ≡ rule (seen es) c
   answered c e (enters n z r) p =
-      ap (λ (x : Result ℕ Refusal). and_then {T = Unit {0}} x (Ok tt)) (p.answers ∙ enter_rules s n z t)
+      ap (λ (x : Result ℕ Refusal). and_then {T = Unit {0}} x (Ok tt)) (p.answers)
       ∙ enter_verdict (good_size z) (good_name n) (is_free s.accounts.lease) (ltb s.book.entered 1024) s.book.entered
       ∙ ap (λ f. provided (good_size z) Size (provided (good_name n) Name (provided f LeaseOut (provided (ltb s.book.entered 1024) BookFull (Ok tt))))) free
       ∙ ap (λ i. provided (good_size z) Size (provided (good_name n) Name (provided (not (seen es).leased) LeaseOut (provided (ltb i 1024) BookFull (Ok tt))))) q.entered
@@ -123,7 +120,7 @@ module _ (R : Rule) (m : ℕ) (es : List Event) (s s' : State) (t : Tied s) (q :
       ∙ ap (λ b. provided (not (seen es).leased) LeaseOut (provided b ClockEnd (provided (is_some s.choice) Nobody (Ok tt)))) before
       ∙ ap (λ b. provided (not (seen es).leased) LeaseOut (provided (ltb (seen es).clock 16777215) ClockEnd (provided b Nobody (Ok tt))))
       (choice_work s.present s.choice t.sound ∙ ap (ltb 0) sum_is)
-  answered c e (dones b l r k) p = ap without_lease (p.answers ∙ done_rules s l t) ∙ handed b l k
+  answered c e (dones b l r k) p = ap without_lease (p.answers) ∙ handed b l k
   answered c e (backs b l r k) p = ap without_lease p.answers ∙ handed b l k
   answered c e (passes r) p =
       ap (λ (x : Verdict). and_then {T = Unit {0}} x (Ok tt)) p.answers

@@ -7,8 +7,6 @@ use Rattle.discipline.specs.declared.Discipline.{Ghosts}
 use Rattle.discipline.specs.Meaning.{Sound}
 use Rattle.run.specs.declared.run.Run.{Run}
 use Rattle.run.specs.declared.accounts.Accounts.{Accounts}
-use Rattle.run.specs.declared.accounts.LeaseState.{LeaseState}
-use Rattle.run.specs.declared.accounts.LeaseState.TheVariants.{Free, Out}
 use Rattle.run.specs.declared.lease.Lease.{Lease}
 use Rattle.run.specs.Runs.{meaning}
 use Rattle.run.specs.Steps.{giving_back, made_with}
@@ -34,9 +32,9 @@ use Rattle.contest.proofs.Comparing.{Picks, by_any, faithful, fewest, runs_compa
 
 -- ---- one run
 
-carried : (R : Rule) (h : History) (s : Schedule) (a : Accounts) (w : LeaseState) (k o : Option Lease) → o ≡ k → Held R h s a w k → Carries a w o
-carried R h s a Free k o e p = e ∙ p
-carried R h s a (Out j) k o e p = e ∙ p.0
+carried : (R : Rule) (h : History) (s : Schedule) (a : Accounts) (w : Option ℕ) (k o : Option Lease) → o ≡ k → Held R h s a w k → Carries a w o
+carried R h s a None k o e p = e ∙ p
+carried R h s a (Some j) k o e p = e ∙ p.0
 
 module _ {D : Type 0} (d : Ghosts D) (sound : (x : D) → Sound (d.present x) (d.choice x)) (m : ℕ) where
   -- a call may be made

@@ -1,11 +1,9 @@
 -- What one call of a contest does to one run.
-use Rattle.std.specs.Prelude.{◌≡◌, Some, None, Ok, Err, Option, Result}
+use Rattle.std.specs.Prelude.{◌≡◌, ℕ, Some, None, Ok, Err, Option, Result}
 use Rattle.refusal.specs.declared.Refusal.{Refusal}
 use Rattle.discipline.specs.declared.Discipline.{Ghosts}
 use Rattle.run.specs.declared.run.Run.{Run}
 use Rattle.run.specs.declared.accounts.Accounts.{Accounts}
-use Rattle.run.specs.declared.accounts.LeaseState.{LeaseState}
-use Rattle.run.specs.declared.accounts.LeaseState.TheVariants.{Free, Out}
 use Rattle.run.specs.declared.lease.Lease.{Lease}
 use Rattle.run.specs.Runs.{meaning}
 use Rattle.run.specs.Histories.{Event, enter, take, done, back, pass, Step}
@@ -61,9 +59,9 @@ answer_of (pass (Err e)) = Refused e
 -- ---- a call on a run
 
 -- The lease is the one that the accounts have out.
-abbrev pub Carries : Accounts → LeaseState → Option Lease → Type 0
-Carries a Free o = o ≡ None
-Carries a (Out j) o = o ≡ Some (record { mark = a.mark; tick = a.clock; job = j })
+abbrev pub Carries : Accounts → Option ℕ → Option Lease → Type 0
+Carries a None o = o ≡ None
+Carries a (Some j) o = o ≡ Some (record { mark = a.mark; tick = a.clock; job = j })
 
 -- The run x has the lease o out, and another mark than the stray lease k.
 pub record Ready {D : Type 0} (d : Ghosts D) (x : Run D d) (o : Option Lease) (k : Lease) : Type 0 where

@@ -18,16 +18,12 @@ pub use rounds::{Pair, contest};
 pub use turn::Leases;
 
 // A law: whatever calls are made of a run, over whatever discipline, it answers what its history and its own schedule have.
-pub fn every_run_is_faithful<D: Discipline>() -> u8
+pub fn every_run_is_faithful<D: Discipline>()
     ensures { RunsFaithful D.Discipline }
-{
-    0
-}
+{}
 
 // A law: a run over SRPT and a run over whatever discipline, under the same calls, refuse the same ones, show the same clock and the same
 // unfinished work, and no legal schedule has fewer jobs present than the run over SRPT.
-pub fn srpt_keeps_fewest<D: Discipline>() -> u8
+pub fn srpt_keeps_fewest<D: Discipline>()
     ensures { RunsCompared ghosts D.Discipline }
-{
-    0
-}
+{}
