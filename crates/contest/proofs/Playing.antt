@@ -1,19 +1,20 @@
--- A lease that is handed in, as a call of a list: accepted, or refused and given back.
-use Rattle.std.proofs.Common.{◌≡◌, ℕ, Some, None, Ok, Err, Option, sym, refl, subst}
+-- What one side makes of a call: what is answered, and what becomes of a lease that is handed in.
+use Rattle.std.proofs.Common.{◌≡◌, ℕ, Some, None, Ok, Err, Option, Result, IsOkAnd, MatchResult, sym, refl, ap, subst}
 use Rattle.refusal.specs.declared.Refusal.{Refusal}
 use Rattle.discipline.specs.declared.Discipline.{Ghosts}
-use Rattle.run.specs.declared.run.Run.{Run}
 use Rattle.run.specs.declared.lease.Lease.{Lease}
 use Rattle.run.specs.Runs.{meaning}
 use Rattle.run.specs.Histories.{Step}
 use Rattle.contest.specs.declared.calls.Hand.{Hand}
 use Rattle.contest.specs.declared.calls.Hand.TheVariants.{Own, Stray}
-use Rattle.contest.specs.declared.calls.Answer.TheVariants.{Accepted, Refused}
+use Rattle.contest.specs.declared.calls.Reply.{Reply}
+use Rattle.contest.specs.declared.calls.Reply.TheVariants.{Accepted}
+use Rattle.contest.specs.declared.side.Side.{Side}
 use Rattle.contest.specs.declared.play.End.{End}
 use Rattle.contest.specs.declared.play.End.TheVariants.{Worked, Lost}
 use Rattle.contest.specs.Calls.{own}
 use Rattle.contest.specs.Chains.{Handed, dones, backs}
-use Rattle.contest.specs.Played.{hand_of, handing_in, handed_in, Plays}
+use Rattle.contest.specs.Played.{hand_of, handing_in, handed_in, Answer, replied, mark_of, Plays}
 
 -- ---- which lease may be handed in
 
@@ -26,16 +27,24 @@ handed_none m h o l n e f = subst (λ (x : Hand). Handed m (hand_of x) o l) (sym
 pub handed_stray : (m : ℕ) (h : Hand) (o : Option Lease) (l : Lease) → (l.mark ≡ m → ⊥) → h ≡ Stray → Handed m (hand_of h) o l
 handed_stray m h o l n e = subst (λ (x : Hand). Handed m (hand_of x) o l) (sym e) n
 
--- ---- what becomes of it
+-- ---- what is answered
 
-module _ {D : Type 0} (d : Ghosts D) (x y : Run D d) (o : Option Lease) (k l : Lease) where
-  pub plays_accepted : (e : End) (h : Hand) (u : Unit {0}) → Handed (meaning d x).accounts.mark (hand_of h) o l → Step (handed_in e l (Ok u)) (meaning d x) (meaning d y)
-      → Plays d x o k (handing_in e h) (record { lease = None; stray = k; answer = Accepted }) y
-  plays_accepted Worked h u a p = record { event = handed_in Worked l (Ok u); asks = dones (hand_of h) l (Ok u) a; does = p; leaves = refl; unspent = refl; answers = refl }
-  plays_accepted Lost h u a p = record { event = handed_in Lost l (Ok u); asks = backs (hand_of h) l (Ok u) a; does = p; leaves = refl; unspent = refl; answers = refl }
+-- what `map` makes of an answer
+pub mapped : {T : Type 0} (r : Result T Refusal) (a : Answer) (P : T → Reply → Type 0) (f : T → Reply) → ((x : T) (y : Reply) → P x y → y ≡ f x)
+    → MatchResult r (λ x. IsOkAnd a (P x)) (λ e. a ≡ Err e) → a ≡ replied f r
+mapped (Ok x) (Ok y) P f h p = ap Ok (h x y p)
+mapped (Ok x) (Err e) P f h p = absurd p
+mapped (Err e) a P f h p = p
 
-  pub plays_refused : (e : End) (h : Hand) (c : Refusal) (b : Lease) (o' : Option Lease) (k' : Lease) → Handed (meaning d x).accounts.mark (hand_of h) o l
-      → Step (handed_in e l (Err (c, b))) (meaning d x) (meaning d y) → o' ≡ o → k' ≡ k
-      → Plays d x o k (handing_in e h) (record { lease = o'; stray = k'; answer = Refused c }) y
-  plays_refused Worked h c b o' k' a p i j = record { event = handed_in Worked l (Err (c, b)); asks = dones (hand_of h) l (Err (c, b)) a; does = p; leaves = i; unspent = j; answers = refl }
-  plays_refused Lost h c b o' k' a p i j = record { event = handed_in Lost l (Err (c, b)); asks = backs (hand_of h) l (Err (c, b)) a; does = p; leaves = i; unspent = j; answers = refl }
+-- ---- what becomes of a lease that is handed in
+
+module _ {D : Type 0} (d : Ghosts D) (x y : Side D d) (l : Lease) where
+  pub plays_accepted : (e : End) (h : Hand) (u : Unit {0}) → Handed (mark_of x) (hand_of h) x.lease l → Step (handed_in e l (Ok u)) (meaning d x.run) (meaning d y.run)
+      → y.lease ≡ None → Plays d x (handing_in e h) (Ok Accepted) y
+  plays_accepted Worked h u a p i = record { event = handed_in Worked l (Ok u); asks = dones (hand_of h) l (Ok u) a; does = p; leaves = i; answers = refl }
+  plays_accepted Lost h u a p i = record { event = handed_in Lost l (Ok u); asks = backs (hand_of h) l (Ok u) a; does = p; leaves = i; answers = refl }
+
+  pub plays_refused : (e : End) (h : Hand) (c : Refusal) (b : Lease) → Handed (mark_of x) (hand_of h) x.lease l
+      → Step (handed_in e l (Err (c, b))) (meaning d x.run) (meaning d y.run) → y.lease ≡ x.lease → Plays d x (handing_in e h) (Err c) y
+  plays_refused Worked h c b a p i = record { event = handed_in Worked l (Err (c, b)); asks = dones (hand_of h) l (Err (c, b)) a; does = p; leaves = i; answers = refl }
+  plays_refused Lost h c b a p i = record { event = handed_in Lost l (Err (c, b)); asks = backs (hand_of h) l (Err (c, b)) a; does = p; leaves = i; answers = refl }

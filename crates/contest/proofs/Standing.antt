@@ -6,13 +6,11 @@ use Rattle.refusal.specs.Answers.{provided}
 use Rattle.discipline.specs.declared.Discipline.{Ghosts}
 use Rattle.discipline.specs.Meaning.{Sound}
 use Rattle.run.specs.declared.run.Run.{Run}
-use Rattle.run.specs.declared.accounts.Accounts.{Accounts}
 use Rattle.run.specs.declared.lease.Lease.{Lease}
 use Rattle.run.specs.Runs.{meaning}
-use Rattle.run.specs.Steps.{giving_back, made_with}
+use Rattle.run.specs.Steps.{giving_back}
 use Rattle.run.specs.Histories.{Event, Step}
-use Rattle.schedule.specs.Histories.{History}
-use Rattle.schedule.specs.Schedules.{Schedule, Rule, Legal, NonIdling}
+use Rattle.schedule.specs.Schedules.{Schedule, Legal, NonIdling}
 use Rattle.schedule.specs.Occupancy.{occupancy}
 use Rattle.srpt.specs.declared.srpt.Srpt.{Srpt}
 use Rattle.srpt.specs.contracts.srpt_calls.SrptDiscipline.TheImpl.{ghosts}
@@ -20,33 +18,19 @@ use Rattle.srpt.specs.Jobs.{least_sound}
 use Rattle.srpt.specs.Choosing.{least_best}
 use Rattle.contest.specs.declared.calls.Call.{Call}
 use Rattle.contest.specs.declared.calls.Round.{Round}
-use Rattle.contest.specs.declared.turn.Leases.{Leases}
+use Rattle.contest.specs.declared.pair.Pair.{Pair}
 use Rattle.contest.specs.Calls as C
 use Rattle.contest.specs.Transcripts.{history, own_schedule, lease_after, lease_out, entries_before}
 use Rattle.contest.specs.Chains.{Asks, Chain, made, called}
-use Rattle.contest.specs.Played.{call_of, Carries, Ready}
-use Rattle.contest.specs.Contested.{calls, occupancies, Turns, Led, Takes, Contested}
-use Rattle.contest.proofs.Keeping.{Held}
+use Rattle.contest.specs.Played.{call_of, mark_of}
+use Rattle.contest.specs.Contested.{calls, occupancies, Fresh, Turns, Led, Takes, Contested}
 use Rattle.contest.proofs.Ruling.{lease_is}
 use Rattle.contest.proofs.Comparing.{Picks, by_any, faithful, fewest, runs_compared}
 
 -- ---- one run
 
-carried : (R : Rule) (h : History) (s : Schedule) (a : Accounts) (w : Option ℕ) (k o : Option Lease) → o ≡ k → Held R h s a w k → Carries a w o
-carried R h s a None k o e p = e ∙ p
-carried R h s a (Some j) k o e p = e ∙ p.0
-
 module _ {D : Type 0} (d : Ghosts D) (sound : (x : D) → Sound (d.present x) (d.choice x)) (m : ℕ) where
-  -- a call may be made
-  ready : {cs : List C.Call} {es : List Event} {r : Run D d} → Chain d m cs es r → (o : Option Lease) → o ≡ lease_out es → (k : Lease) → (k.mark ≡ m → ⊥) → Ready d r o k
-  ready {es = es} {r = r} x o e k n =
-      let q = by_any d sound m x in
-      record {
-        carries = carried NonIdling (history es) (own_schedule es) (meaning d r).accounts (meaning d r).accounts.lease (lease_out es) o e q.held;
-        strange = λ i. n (i ∙ q.marked);
-      }
-
-  -- and makes the chain longer
+  -- a call makes the chain longer
   lengthened : {cs : List C.Call} {es : List Event} {r : Run D d} → Chain d m cs es r → (o : Option Lease) → o ≡ lease_out es → (c c' : C.Call) → c' ≡ c → (e : Event) (r' : Run D d)
       → Asks (meaning d r).accounts.mark o c e → Step e (meaning d r) (meaning d r') → Chain d m (c' ∷ cs) (e ∷ es) r'
   lengthened {es = es} {r = r} x o i c c' j e r' a p =
@@ -88,41 +72,34 @@ least_counted m cs es r x t p n =
 -- ---- both runs
 
 module _ {D : Type 0} (d : Ghosts D) (sound : (x : D) → Sound (d.present x) (d.choice x)) (k : Lease) where
-  pub led_made : (a b : ℕ) (x : Run Srpt ghosts) (y : Run D d) → meaning ghosts x ≡ made_with a → meaning d y ≡ made_with b → (k.mark ≡ a → ⊥) → (k.mark ≡ b → ⊥)
-      → Led d k [] x y (record { srpt = None; rival = None; stray = k })
-  led_made a b x y e f p q = record {
-    mark = a;
-    mark' = b;
-    es = [];
-    es' = [];
-    chain = made x e;
-    chain' = made y f;
-    answers = refl;
-    answers' = refl;
-    counts = refl;
-    counts' = refl;
-    lease = refl;
-    lease' = refl;
-    unspent = refl;
-    strange = p;
-    strange' = q;
-  }
+  pub led_made : (p : Pair D d) → Fresh d k p → Led d k [] p
+  led_made p f =
+      let mark-is : p.stray.mark ≡ k.mark = ap (λ (l : Lease). l.mark) f.unspent in
+      record {
+        mark = mark_of p.srpt;
+        mark' = mark_of p.rival;
+        es = [];
+        es' = [];
+        chain = made p.srpt.run f.srpt;
+        chain' = made p.rival.run f.rival;
+        answers = refl;
+        answers' = refl;
+        counts = refl;
+        counts' = refl;
+        lease = f.free;
+        lease' = f.free';
+        unspent = f.unspent;
+        strange = λ e. p.strange_to_srpt (mark-is ∙ e);
+        strange' = λ e. p.strange_to_rival (mark-is ∙ e);
+      }
 
-  pub led_ready : (rs : List Round) (x : Run Srpt ghosts) (y : Run D d) (o : Leases) → Led d k rs x y o → Ready ghosts x o.srpt o.stray × Ready d y o.rival o.stray
-  led_ready rs x y o s =
-      let same : o.stray.mark ≡ k.mark = ap (λ (l : Lease). l.mark) s.unspent in (
-        ready ghosts least_sound s.mark s.chain o.srpt s.lease o.stray (λ e. s.strange (sym same ∙ e)),
-        ready d sound s.mark' s.chain' o.rival s.lease' o.stray (λ e. s.strange' (sym same ∙ e)),
-      )
-
-  led_turned : (rs : List Round) (x : Run Srpt ghosts) (y : Run D d) (o : Leases) (c : Call) (o' : Leases) (r : Round) (x' : Run Srpt ghosts) (y' : Run D d)
-      → Led d k rs x y o → Turns d x y o c o' r x' y' → Led d k (r ∷ rs) x' y' o'
-  led_turned rs x y o c o' r x' y' s t =
+  led_turned : (rs : List Round) (p : Pair D d) (c : Call) (r : Round) (p' : Pair D d) → Led d k rs p → Turns d p c r p' → Led d k (r ∷ rs) p'
+  led_turned rs p c r p' s t =
       let j = ap call_of t.same in
-      let a : Chain ghosts s.mark (calls (r ∷ rs)) (t.first.event ∷ s.es) x' =
-      lengthened ghosts least_sound s.mark s.chain o.srpt s.lease (call_of c) (call_of r.call) j t.first.event x' t.first.asks t.first.does in
-      let b : Chain d s.mark' (calls (r ∷ rs)) (t.second.event ∷ s.es') y' =
-      lengthened d sound s.mark' s.chain' o.rival s.lease' (call_of c) (call_of r.call) j t.second.event y' t.second.asks t.second.does in
+      let a : Chain ghosts s.mark (calls (r ∷ rs)) (t.first.event ∷ s.es) p'.srpt.run =
+      lengthened ghosts least_sound s.mark s.chain p.srpt.lease s.lease (call_of c) (call_of r.call) j t.first.event p'.srpt.run t.first.asks t.first.does in
+      let b : Chain d s.mark' (calls (r ∷ rs)) (t.second.event ∷ s.es') p'.rival.run =
+      lengthened d sound s.mark' s.chain' p.rival.lease s.lease' (call_of c) (call_of r.call) j t.second.event p'.rival.run t.second.asks t.second.does in
       record {
         mark = s.mark;
         mark' = s.mark';
@@ -136,26 +113,26 @@ module _ {D : Type 0} (d : Ghosts D) (sound : (x : D) → Sound (d.present x) (d
         counts' = (cc (t.counted' ∙ (faithful d sound s.mark' b).present_is, s.counts'));
         lease = t.first.leaves ∙ ap (lease_after t.first.event) s.lease;
         lease' = t.second.leaves ∙ ap (lease_after t.second.event) s.lease';
-        unspent = t.first.unspent ∙ s.unspent;
+        unspent = t.unspent ∙ s.unspent;
         strange = s.strange;
         strange' = s.strange';
       }
 
-  pub contested : (rs ss : List Round) (x : Run Srpt ghosts) (y : Run D d) (o : Leases) → calls ss ≡ calls rs → Led d k (reverse ss) x y o → Contested d k rs ss x y o
-  contested rs ss x y o e s =
+  pub contested : (rs ss : List Round) (p : Pair D d) → calls ss ≡ calls rs → Led d k (reverse ss) p → Contested d k rs ss p
+  contested rs ss p e s =
       let compares = runs_compared ghosts d least_sound srpt_short sound s.mark s.mark' in
       record {
         same = e;
         led = s;
-        compared = compares (calls (reverse ss)) s.es s.es' x y s.chain s.chain';
+        compared = compares (calls (reverse ss)) s.es s.es' p.srpt.run p.rival.run s.chain s.chain';
         throughout = λ n.
             let a = before s.chain n in
             let b = before s.chain' n in
             (a.0, b.0, a.1, b.1, compares (drop n (calls (reverse ss))) (drop n s.es) (drop n s.es') a.0 b.0 a.1 b.1);
-        least = λ t p n. subst (λ (c : List ℕ). get_or c n 0 ≤ occupancy (history (drop n s.es)) (entries_before n s.es t)) (sym s.counts)
-            (least_counted s.mark (calls (reverse ss)) s.es x s.chain t p n);
-        taken = takes ghosts least_sound s.mark s.chain o.srpt s.lease;
-        taken' = takes d sound s.mark' s.chain' o.rival s.lease';
+        least = λ t q n. subst (λ (c : List ℕ). get_or c n 0 ≤ occupancy (history (drop n s.es)) (entries_before n s.es t)) (sym s.counts)
+            (least_counted s.mark (calls (reverse ss)) s.es p.srpt.run s.chain t q n);
+        taken = takes ghosts least_sound s.mark s.chain p.srpt.lease s.lease;
+        taken' = takes d sound s.mark' s.chain' p.rival.lease s.lease';
       }
 
   -- a round is written down
@@ -168,10 +145,10 @@ module _ {D : Type 0} (d : Ghosts D) (sound : (x : D) → Sound (d.present x) (d
       ∙ ap (set (calls rs) i) (ap call_of e ∙ sym (get_or-map (λ (x : Round). call_of x.call) rs i r C.Take l))
       ∙ set-get_or (calls rs) i C.Take
 
-  pub turned_again : (rs ss : List Round) (i : ℕ) (r v : Round) (x x' : Run Srpt ghosts) (y y' : Run D d) (o o' : Leases) → i < length rs
-      → Led d k (reverse (take i rs)) x y o × (calls rs ≡ calls ss) → Turns d x y o (get_or rs i r).call o' v x' y'
-      → Led d k (reverse (take (i + 1) (set rs i v))) x' y' o' × (calls (set rs i v) ≡ calls ss)
-  turned_again rs ss i r v x x' y y' o o' l s t = (
-    subst (λ (ps : List Round). Led d k ps x' y' o') (sym (past_set rs i v l)) (led_turned (reverse (take i rs)) x y o (get_or rs i r).call o' v x' y' s.0 t),
+  pub turned_again : (rs ss : List Round) (i : ℕ) (r v : Round) (p p' : Pair D d) → i < length rs
+      → Led d k (reverse (take i rs)) p × (calls rs ≡ calls ss) → Turns d p (get_or rs i r).call v p'
+      → Led d k (reverse (take (i + 1) (set rs i v))) p' × (calls (set rs i v) ≡ calls ss)
+  turned_again rs ss i r v p p' l s t = (
+    subst (λ (ps : List Round). Led d k ps p') (sym (past_set rs i v l)) (led_turned (reverse (take i rs)) p (get_or rs i r).call v p' s.0 t),
     calls-set rs i v r l t.same ∙ s.1,
   )

@@ -4,7 +4,7 @@ use Rattle.discipline.specs.declared.Discipline.{Ghosts}
 use Rattle.run.specs.declared.run.Run.{Run}
 use Rattle.run.specs.declared.lease.Lease.{Lease}
 use Rattle.run.specs.Runs.{meaning}
-use Rattle.run.specs.Steps.{done_rule}
+use Rattle.run.specs.Steps.{made_with, done_rule}
 use Rattle.run.specs.Histories.{Event}
 use Rattle.schedule.specs.Schedules.{Schedule, Legal}
 use Rattle.schedule.specs.Occupancy.{occupancy}
@@ -12,12 +12,12 @@ use Rattle.srpt.specs.declared.srpt.Srpt.{Srpt}
 use Rattle.srpt.specs.contracts.srpt_calls.SrptDiscipline.TheImpl.{ghosts}
 use Rattle.contest.specs.declared.calls.Call.{Call}
 use Rattle.contest.specs.declared.calls.Round.{Round}
-use Rattle.contest.specs.declared.turn.Leases.{Leases}
+use Rattle.contest.specs.declared.pair.Pair.{Pair}
 use Rattle.contest.specs.Calls as C
 use Rattle.contest.specs.Transcripts.{history, own_schedule, lease_out, entries_before}
 use Rattle.contest.specs.Chains.{Chain}
 use Rattle.contest.specs.Comparison.{present_in, Compared}
-use Rattle.contest.specs.Played.{call_of, answer_of, Plays}
+use Rattle.contest.specs.Played.{call_of, answer_of, mark_of, Plays}
 
 -- ---- what was done
 
@@ -30,30 +30,40 @@ abbrev pub occupancies : List Event → List ℕ
 occupancies [] = []
 occupancies (e ∷ es) = occupancy (history (e ∷ es)) (own_schedule (e ∷ es)) ∷ occupancies es
 
--- One call on both runs: x and y before it, x' and y' after it.
-pub record Turns {D : Type 0} (d : Ghosts D) (x : Run Srpt ghosts) (y : Run D d) (o : Leases) (c : Call) (o' : Leases) (r : Round) (x' : Run Srpt ghosts) (y' : Run D d) : Type 0 where
-  pub same : r.call ≡ c
-  pub first : Plays ghosts x o.srpt o.stray (call_of c) (record { lease = o'.srpt; stray = o'.stray; answer = r.srpt.answer }) x'
-  pub second : Plays d y o.rival o.stray (call_of c) (record { lease = o'.rival; stray = o'.stray; answer = r.rival.answer }) y'
-  pub counted : r.srpt.present ≡ present_in (meaning ghosts x')
-  pub counted' : r.rival.present ≡ present_in (meaning d y')
+-- A pair newly made, with the stray lease k: nothing has been called, no lease is out, and the stray lease is k. By the type of a pair its mark is not that of either run.
+pub record Fresh {D : Type 0} (d : Ghosts D) (k : Lease) (p : Pair D d) : Type 0 where
+  pub srpt : meaning ghosts p.srpt.run ≡ made_with (mark_of p.srpt)
+  pub rival : meaning d p.rival.run ≡ made_with (mark_of p.rival)
+  pub free : p.srpt.lease ≡ None
+  pub free' : p.rival.lease ≡ None
+  pub unspent : p.stray ≡ k
 
--- The rounds, the newest first, led to the runs x and y, newly made with marks that the stray lease k does not have. The transcripts es and
--- es' have what each run answered; the rounds have that down, and how many jobs were present; the leases are those that are out.
-pub record Led {D : Type 0} (d : Ghosts D) (k : Lease) (rounds : List Round) (x : Run Srpt ghosts) (y : Run D d) (o : Leases) : Type 0 where
+-- One call on both sides: p before it, p' after it, and r what is written down of it.
+pub record Turns {D : Type 0} (d : Ghosts D) (p : Pair D d) (c : Call) (r : Round) (p' : Pair D d) : Type 0 where
+  pub same : r.call ≡ c
+  pub first : Plays ghosts p.srpt (call_of c) r.srpt.answer p'.srpt
+  pub second : Plays d p.rival (call_of c) r.rival.answer p'.rival
+  pub counted : r.srpt.present ≡ present_in (meaning ghosts p'.srpt.run)
+  pub counted' : r.rival.present ≡ present_in (meaning d p'.rival.run)
+  pub unspent : p'.stray ≡ p.stray
+
+-- The rounds, the newest first, led to the pair p, whose runs were newly made with marks that the stray lease k does not have. The
+-- transcripts es and es' have what each run answered; the rounds have that down, and how many jobs were present; the leases are those
+-- that are out.
+pub record Led {D : Type 0} (d : Ghosts D) (k : Lease) (rounds : List Round) (p : Pair D d) : Type 0 where
   pub mark : ℕ
   pub mark' : ℕ
   pub es : List Event
   pub es' : List Event
-  pub chain : Chain ghosts mark (calls rounds) es x
-  pub chain' : Chain d mark' (calls rounds) es' y
+  pub chain : Chain ghosts mark (calls rounds) es p.srpt.run
+  pub chain' : Chain d mark' (calls rounds) es' p.rival.run
   pub answers : map (λ r. r.srpt.answer) rounds ≡ map answer_of es
   pub answers' : map (λ r. r.rival.answer) rounds ≡ map answer_of es'
   pub counts : map (λ r. r.srpt.present) rounds ≡ occupancies es
   pub counts' : map (λ r. r.rival.present) rounds ≡ occupancies es'
-  pub lease : o.srpt ≡ lease_out es
-  pub lease' : o.rival ≡ lease_out es'
-  pub unspent : o.stray ≡ k
+  pub lease : p.srpt.lease ≡ lease_out es
+  pub lease' : p.rival.lease ≡ lease_out es'
+  pub unspent : p.stray ≡ k
   pub strange : k.mark ≡ mark → ⊥
   pub strange' : k.mark ≡ mark' → ⊥
 
@@ -78,12 +88,12 @@ Takes d x None = Unit {0}
 Takes d x (Some l) = done_rule (meaning d x) l ≡ Ok tt
 
 -- A whole contest: the rounds that were handed over, with their calls unaltered, became the rounds after; these calls were made in their
--- order on both runs, which are now x and y; the theorem holds of them now and at every earlier point.
-pub record Contested {D : Type 0} (d : Ghosts D) (k : Lease) (before after : List Round) (x : Run Srpt ghosts) (y : Run D d) (o : Leases) : Type 0 where
+-- order on both runs, which are now those of the pair; the theorem holds of them now and at every earlier point.
+pub record Contested {D : Type 0} (d : Ghosts D) (k : Lease) (before after : List Round) (p : Pair D d) : Type 0 where
   pub same : calls after ≡ calls before
-  pub led : Led d k (reverse after) x y o
-  pub compared : Compared ghosts d led.mark (calls (reverse after)) led.es led.es' x y
+  pub led : Led d k (reverse after) p
+  pub compared : Compared ghosts d led.mark (calls (reverse after)) led.es led.es' p.srpt.run p.rival.run
   pub throughout : Throughout d led.mark led.mark' (calls (reverse after)) led.es led.es'
   pub least : Least (reverse after) led.es
-  pub taken : Takes ghosts x o.srpt
-  pub taken' : Takes d y o.rival
+  pub taken : Takes ghosts p.srpt.run p.srpt.lease
+  pub taken' : Takes d p.rival.run p.rival.lease

@@ -4,5 +4,6 @@ pub mod Rules
 pub mod Chains
 pub mod Books
 pub mod Comparison
+pub mod Carried
 pub mod Played
 pub mod Contested

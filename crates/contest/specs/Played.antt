@@ -1,23 +1,23 @@
 -- What one call of a contest does to one run.
-use Rattle.std.specs.Prelude.{◌≡◌, ℕ, Some, None, Ok, Err, Option, Result}
+use Rattle.std.specs.Prelude.{◌≡◌, ℕ, Ok, Err, Result, MatchOption}
 use Rattle.refusal.specs.declared.Refusal.{Refusal}
 use Rattle.discipline.specs.declared.Discipline.{Ghosts}
 use Rattle.run.specs.declared.run.Run.{Run}
-use Rattle.run.specs.declared.accounts.Accounts.{Accounts}
 use Rattle.run.specs.declared.lease.Lease.{Lease}
 use Rattle.run.specs.Runs.{meaning}
+use Rattle.run.specs.Steps.{Backs}
 use Rattle.run.specs.Histories.{Event, enter, take, done, back, pass, Step}
 use Rattle.contest.specs.declared.calls.Hand.{Hand}
 use Rattle.contest.specs.declared.calls.Hand.TheVariants.{Own, Stray}
 use Rattle.contest.specs.declared.calls.Call.{Call}
 use Rattle.contest.specs.declared.calls.Call.TheVariants.{Enter, Take, Done, Back, Pass}
-use Rattle.contest.specs.declared.calls.Answer.{Answer}
-use Rattle.contest.specs.declared.calls.Answer.TheVariants.{Entered, Leased, Accepted, Refused}
-use Rattle.contest.specs.declared.play.Played.{Played}
+use Rattle.contest.specs.declared.calls.Reply.{Reply}
+use Rattle.contest.specs.declared.calls.Reply.TheVariants.{Entered, Leased, Accepted}
+use Rattle.contest.specs.declared.side.Side.{Side}
 use Rattle.contest.specs.declared.play.End.{End}
 use Rattle.contest.specs.declared.play.End.TheVariants.{Worked, Lost}
 use Rattle.contest.specs.Calls as C
-use Rattle.contest.specs.Transcripts.{lease_after}
+use Rattle.contest.specs.Transcripts.{without_lease, lease_after}
 use Rattle.contest.specs.Chains.{Asks}
 
 -- ---- the calls of the program, as those of a list
@@ -43,36 +43,37 @@ abbrev pub handed_in : End → Lease → Result (Unit {0}) (Refusal × Lease) �
 handed_in Worked l r = done l r
 handed_in Lost l r = back l r
 
+-- What a run answers, as it is written down.
+abbrev pub Answer : Type 0
+Answer = Result Reply Refusal
+
+-- The answer of a call, by the reply that its value makes where it is accepted.
+abbrev pub replied : {T : Type 0} → (T → Reply) → Result T Refusal → Answer
+replied f (Ok x) = Ok (f x)
+replied f (Err e) = Err e
+
 -- The answer that is written down for a call of a run.
 abbrev pub answer_of : Event → Answer
-answer_of (enter n z (Ok k)) = Entered k
-answer_of (enter n z (Err e)) = Refused e
-answer_of (take (Ok l)) = Leased l.job
-answer_of (take (Err e)) = Refused e
-answer_of (done l (Ok _)) = Accepted
-answer_of (done l (Err e)) = Refused e.0
-answer_of (back l (Ok _)) = Accepted
-answer_of (back l (Err e)) = Refused e.0
-answer_of (pass (Ok _)) = Accepted
-answer_of (pass (Err e)) = Refused e
+answer_of (enter n z r) = replied Entered r
+answer_of (take r) = replied (λ l. Leased l.job) r
+answer_of (done l r) = replied (λ _. Accepted) (without_lease r)
+answer_of (back l r) = replied (λ _. Accepted) (without_lease r)
+answer_of (pass r) = replied (λ _. Accepted) r
 
--- ---- a call on a run
+-- ---- a call on one side
 
--- The lease is the one that the accounts have out.
-abbrev pub Carries : Accounts → Option ℕ → Option Lease → Type 0
-Carries a None o = o ≡ None
-Carries a (Some j) o = o ≡ Some (record { mark = a.mark; tick = a.clock; job = j })
+-- The mark of a side's run.
+abbrev pub mark_of : {D : Type 0} {d : Ghosts D} → Side D d → ℕ
+mark_of x = x.run.accounts.mark
 
--- The run x has the lease o out, and another mark than the stray lease k.
-pub record Ready {D : Type 0} (d : Ghosts D) (x : Run D d) (o : Option Lease) (k : Lease) : Type 0 where
-  pub carries : Carries (meaning d x).accounts (meaning d x).accounts.lease o
-  pub strange : k.mark ≡ (meaning d x).accounts.mark → ⊥
-
--- The call c was made on the run x, which had the lease o out, with the stray lease k at hand; it left r and the run y.
-pub record Plays {D : Type 0} (d : Ghosts D) (x : Run D d) (o : Option Lease) (k : Lease) (c : C.Call) (r : Played) (y : Run D d) : Type 0 where
+-- The call c was made on the side x; it answered a and left y.
+pub record Plays {D : Type 0} (d : Ghosts D) (x : Side D d) (c : C.Call) (a : Answer) (y : Side D d) : Type 0 where
   pub event : Event
-  pub asks : Asks (meaning d x).accounts.mark o c event
-  pub does : Step event (meaning d x) (meaning d y)
-  pub leaves : r.lease ≡ lease_after event o
-  pub unspent : r.stray ≡ k
-  pub answers : r.answer ≡ answer_of event
+  pub asks : Asks (mark_of x) x.lease c event
+  pub does : Step event (meaning d x.run) (meaning d y.run)
+  pub leaves : y.lease ≡ lease_after event x.lease
+  pub answers : a ≡ answer_of event
+
+-- The lease that the side x has out, if any, was handed back as a lost tick, which left the run r; and otherwise x's run is as it was.
+abbrev pub HandedBack : {D : Type 0} → (d : Ghosts D) → Side D d → Run D d → Type 0
+HandedBack d x r = MatchOption x.lease (meaning d r ≡ meaning d x.run) (λ l. Backs (meaning d x.run) l (Ok tt) (meaning d r))

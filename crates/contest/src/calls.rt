@@ -18,14 +18,16 @@ pub enum Call<'a> {
     Pass,
 }
 
-// What a run answered: the number of the job that entered, that of the leased job, plain acceptance, or a refusal.
+// What a run answers to a call that it accepts: the number of the job that entered, that of the leased job, or nothing more.
 #[derive(Clone, Copy)]
-pub enum Answer {
+pub enum Reply {
     Entered(u32),
     Leased(u32),
     Accepted,
-    Refused(Refusal),
 }
+
+// What a run answers to a call.
+pub type Answer = Result<Reply, Refusal>;
 
 // How a run took a call: its answer, and how many jobs were present after it.
 #[derive(Clone, Copy)]

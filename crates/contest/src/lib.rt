@@ -5,17 +5,20 @@ ghost use Rattle.srpt.specs.contracts.srpt_calls.SrptDiscipline.TheImpl.{ghosts}
 ghost use Rattle.contest.specs.Comparison.{RunsFaithful, RunsCompared};
 
 pub mod calls;
+pub mod pair;
 mod play;
 pub mod rounds;
 mod show;
+pub mod side;
 #[cfg(test)]
 mod tests;
-pub mod turn;
+mod turn;
 
-pub use calls::{Answer, Call, Hand, Outcome, Round};
+pub use calls::{Answer, Call, Hand, Outcome, Reply, Round};
 use discipline::Discipline;
-pub use rounds::{Pair, contest};
-pub use turn::Leases;
+pub use pair::Pair;
+pub use rounds::contest;
+pub use side::Side;
 
 // A law: whatever calls are made of a run, over whatever discipline, it answers what its history and its own schedule have.
 pub fn every_run_is_faithful<D: Discipline>()

@@ -1,85 +1,22 @@
-// One call on one run, with the lease that it has out and a stray one at hand.
-ghost use Rattle.std.specs.Prelude.{◌≡◌, IfErr, Err, ◌≢◌};
+// How one side of a contest makes a call.
+ghost use Rattle.std.specs.Prelude.{◌≡◌, IfErr, None, Err, ◌≢◌};
 ghost use Rattle.run.specs.Runs.{meaning};
+ghost use Rattle.run.specs.Steps.{made_with};
 ghost use Rattle.run.specs.Histories.{Step};
 ghost use Rattle.contest.specs.Calls.{Enter, Take, Pass};
-ghost use Rattle.contest.specs.Played.{call_of, handed_in, handing_in, Ready, Plays};
+ghost use Rattle.contest.specs.Played.{call_of, handed_in, handing_in, mark_of, Plays, HandedBack};
 
-use crate::calls::{Answer, Call, Hand};
+use crate::calls::{Answer, Call, Hand, Reply};
+use crate::side::Side;
 use discipline::Discipline;
 use refusal::Refusal;
 use run::{Lease, Run};
-
-// What a call left: the lease that is out, the stray one, and the answer.
-pub(crate) struct Played {
-    pub(crate) lease: Option<Lease>,
-    pub(crate) stray: Lease,
-    pub(crate) answer: Answer,
-}
 
 // How a tick under a lease ends: with a unit done, or lost.
 #[derive(Clone, Copy)]
 pub(crate) enum End {
     Worked,
     Lost,
-}
-
-fn enter<D: Discipline>(
-    run: &mut Run<D>,
-    lease: Option<Lease>,
-    stray: Lease,
-    name: &[u8],
-    size: u32,
-) -> Played
-    ensures { Plays D.Discipline run.old lease stray (Enter name.now size) result run.new }
-{
-    let answer = match run.enter(name, size) {
-        Ok(number) => Answer::Entered(number),
-        Err(cause) => Answer::Refused(cause),
-    };
-    Played {
-        lease,
-        stray,
-        answer,
-    }
-}
-
-fn take<D: Discipline>(run: &mut Run<D>, lease: Option<Lease>, stray: Lease) -> Played
-    requires { Ready D.Discipline run.old lease stray }
-    ensures { Plays D.Discipline run.old lease stray Take result run.new }
-{
-    match run.take() {
-        Err(cause) => Played {
-            lease,
-            stray,
-            answer: Answer::Refused(cause),
-        },
-        Ok(given) => {
-            let None = lease else {
-                unreachable();
-            };
-            let answer = Answer::Leased(given.job());
-            Played {
-                lease: Some(given),
-                stray,
-                answer,
-            }
-        }
-    }
-}
-
-fn pass<D: Discipline>(run: &mut Run<D>, lease: Option<Lease>, stray: Lease) -> Played
-    ensures { Plays D.Discipline run.old lease stray Pass result run.new }
-{
-    let answer = match run.pass() {
-        Ok(()) => Answer::Accepted,
-        Err(cause) => Answer::Refused(cause),
-    };
-    Played {
-        lease,
-        stray,
-        answer,
-    }
 }
 
 // Hands a lease in.
@@ -105,64 +42,101 @@ fn hand_in_stray<D: Discipline>(run: &mut Run<D>, stray: Lease, end: End) -> (Re
     }
 }
 
-// Hands in the run's own lease, or the stray one.
-fn end_tick<D: Discipline>(
-    run: &mut Run<D>,
-    lease: Option<Lease>,
-    stray: Lease,
-    end: End,
-    hand: Hand,
-) -> Played
-    requires { Ready D.Discipline run.old lease stray }
-    ensures { Plays D.Discipline run.old lease stray (handing_in end hand) result run.new }
-{
-    match (hand, lease) {
-        (Hand::Own, Some(own)) => match hand_in(run, own, end) {
-            Ok(()) => Played {
-                lease: None,
-                stray,
-                answer: Answer::Accepted,
-            },
-            Err((cause, own)) => Played {
-                lease: Some(own),
-                stray,
-                answer: Answer::Refused(cause),
-            },
-        },
-        (Hand::Own, None) => {
-            let (cause, stray) = hand_in_stray(run, stray, end);
-            Played {
-                lease: None,
-                stray,
-                answer: Answer::Refused(cause),
-            }
+impl<D: Discipline> Side<D> {
+    // A run with no job yet, and so no lease out.
+    pub(crate) fn new(discipline: D, mark: u16) -> Side<D>
+        ensures is { meaning D.Discipline result.run ≡ made_with mark }
+        ensures free { result.lease ≡ None }
+    {
+        Side {
+            run: Run::new(discipline, mark),
+            lease: None,
         }
-        (Hand::Stray, lease) => {
-            let (cause, stray) = hand_in_stray(run, stray, end);
-            Played {
-                lease,
-                stray,
-                answer: Answer::Refused(cause),
+    }
+
+    fn enter(&mut self, name: &[u8], size: u32) -> Answer
+        ensures { Plays D.Discipline self.old (Enter name.now size) result self.new }
+    {
+        self.run.enter(name, size).map(Reply::Entered)
+    }
+
+    fn take(&mut self) -> Answer
+        ensures { Plays D.Discipline self.old Take result self.new }
+    {
+        let lease = self.run.take()?;
+        let reply = Reply::Leased(lease.job());
+        let None = self.lease.replace(lease) else {
+            unreachable()
+        };
+        Ok(reply)
+    }
+
+    fn pass(&mut self) -> Answer
+        ensures { Plays D.Discipline self.old Pass result self.new }
+    {
+        self.run.pass().map(|()| Reply::Accepted)
+    }
+
+    // Hands in the run's own lease, or the stray one.
+    fn end_tick(self, stray: Lease, end: End, hand: Hand) -> (Side<D>, Answer, Lease)
+        requires { stray.mark ≢ mark_of self }
+        ensures plays { Plays D.Discipline self (handing_in end hand) result.1 result.0 }
+        ensures unspent { result.2 ≡ stray }
+    {
+        let Side { mut run, lease } = self;
+        match (hand, lease) {
+            (Hand::Own, Some(own)) => match hand_in(&mut run, own, end) {
+                Ok(()) => (Side { run, lease: None }, Ok(Reply::Accepted), stray),
+                Err((cause, own)) => {
+                    let lease = Some(own);
+                    (Side { run, lease }, Err(cause), stray)
+                }
+            },
+            (Hand::Own, None) => {
+                let (cause, stray) = hand_in_stray(&mut run, stray, end);
+                (Side { run, lease: None }, Err(cause), stray)
+            }
+            (Hand::Stray, lease) => {
+                let (cause, stray) = hand_in_stray(&mut run, stray, end);
+                (Side { run, lease }, Err(cause), stray)
             }
         }
     }
-}
 
-// Makes a call.
-pub(crate) fn play<D: Discipline>(
-    run: &mut Run<D>,
-    lease: Option<Lease>,
-    stray: Lease,
-    call: Call,
-) -> Played
-    requires { Ready D.Discipline run.old lease stray }
-    ensures { Plays D.Discipline run.old lease stray (call_of call.entry) result run.new }
-{
-    match call {
-        Call::Enter { name, size } => enter(run, lease, stray, name, size),
-        Call::Take => take(run, lease, stray),
-        Call::Done(hand) => end_tick(run, lease, stray, End::Worked, hand),
-        Call::Back(hand) => end_tick(run, lease, stray, End::Lost, hand),
-        Call::Pass => pass(run, lease, stray),
+    // Makes a call, with a stray lease at hand, which comes back.
+    pub(crate) fn play(mut self, stray: Lease, call: Call) -> (Side<D>, Answer, Lease)
+        requires { stray.mark ≢ mark_of self }
+        ensures plays { Plays D.Discipline self (call_of call.entry) result.1 result.0 }
+        ensures unspent { result.2 ≡ stray }
+    {
+        match call {
+            Call::Enter { name, size } => {
+                let answer = self.enter(name, size);
+                (self, answer, stray)
+            }
+            Call::Take => {
+                let answer = self.take();
+                (self, answer, stray)
+            }
+            Call::Done(hand) => self.end_tick(stray, End::Worked, hand),
+            Call::Back(hand) => self.end_tick(stray, End::Lost, hand),
+            Call::Pass => {
+                let answer = self.pass();
+                (self, answer, stray)
+            }
+        }
+    }
+
+    // Hands back the lease that is out, if any, as a lost tick. Never refused.
+    pub fn hand_back(self) -> Run<D>
+        ensures { HandedBack D.Discipline self result }
+    {
+        let Side { mut run, lease } = self;
+        if let Some(lease) = lease {
+            let Ok(()) = run.back(lease) else {
+                unreachable()
+            };
+        }
+        run
     }
 }

@@ -1,13 +1,15 @@
 // How calls and answers are printed.
-use crate::calls::{Answer, Call, Hand};
+use crate::calls::{Call, Hand, Outcome, Reply};
 use std::fmt;
 use std::str::from_utf8;
 
 // What a call that hands in a lease adds to its name.
-fn whose(hand: Hand) -> &'static str {
-    match hand {
-        Hand::Own => "",
-        Hand::Stray => " with a stray lease",
+impl fmt::Display for Hand {
+    fn fmt<W: fmt::Write>(&self, f: &mut fmt::Formatter<W>) -> fmt::Result {
+        f.write_str(match self {
+            Hand::Own => "",
+            Hand::Stray => " with a stray lease",
+        })
     }
 }
 
@@ -18,29 +20,30 @@ impl fmt::Display for Call<'_> {
                 let name = from_utf8(name).unwrap_or("(no text)");
                 write!(f, "enter {name} {size}")
             }
-            Call::Take => write!(f, "take"),
-            Call::Done(hand) => {
-                let whose = whose(hand);
-                write!(f, "done{whose}")
-            }
-            Call::Back(hand) => {
-                let whose = whose(hand);
-                write!(f, "back{whose}")
-            }
-            Call::Pass => write!(f, "pass"),
+            Call::Take => f.write_str("take"),
+            Call::Done(hand) => write!(f, "done{hand}"),
+            Call::Back(hand) => write!(f, "back{hand}"),
+            Call::Pass => f.write_str("pass"),
         }
     }
 }
 
-impl fmt::Display for Answer {
+impl fmt::Display for Reply {
     fn fmt<W: fmt::Write>(&self, f: &mut fmt::Formatter<W>) -> fmt::Result {
         match self {
-            Answer::Entered(number) | Answer::Leased(number) => write!(f, "job {number}"),
-            Answer::Accepted => write!(f, "accepted"),
-            Answer::Refused(cause) => {
-                let number = cause.number();
-                write!(f, "refused {number}, {cause}")
-            }
+            Reply::Entered(number) | Reply::Leased(number) => write!(f, "job {number}"),
+            Reply::Accepted => f.write_str("accepted"),
         }
+    }
+}
+
+// The answer, and who was then present.
+impl fmt::Display for Outcome {
+    fn fmt<W: fmt::Write>(&self, f: &mut fmt::Formatter<W>) -> fmt::Result {
+        match self.answer {
+            Ok(reply) => write!(f, "{reply}")?,
+            Err(cause) => write!(f, "refused {}, {cause}", cause.number())?,
+        }
+        write!(f, "; present {}", self.present)
     }
 }

@@ -1,11 +1,10 @@
 // A contest with first come, first served: a job of 5 units in tick 0, one of 2 units in tick 2, and every tick worked.
-ghost use Rattle.contest.specs.Contested.{Takes};
-
 use crate::calls::{Call, Hand, Round};
-use crate::rounds::{Pair, contest};
-use crate::turn::Leases;
-use discipline::{Discipline, Fcfs};
-use run::{Lease, Run};
+use crate::pair::Pair;
+use crate::rounds::contest;
+use discipline::Fcfs;
+use run::Run;
+use std::array;
 use std::test::Fail;
 
 fn call(round: usize) -> Call<'static> {
@@ -23,16 +22,6 @@ fn call(round: usize) -> Call<'static> {
     }
 }
 
-fn hand_back<D: Discipline>(run: &mut Run<D>, lease: Option<Lease>)
-    requires { Takes D.Discipline run.old lease }
-{
-    if let Some(lease) = lease {
-        let Ok(()) = run.back(lease) else {
-            unreachable()
-        };
-    }
-}
-
 #[test]
 fn shorter_job_overtakes(rt: HostRuntime) -> Result<(), Fail> {
     let mut third = Run::new(Fcfs::new(), 1);
@@ -40,22 +29,10 @@ fn shorter_job_overtakes(rt: HostRuntime) -> Result<(), Fail> {
     let Ok(stray) = third.take() else {
         return Err(Fail::new("no lease was given"));
     };
-    let mut rounds = [Round::of(Call::Take); 16];
-    for i in 0..16 {
-        rounds[i] = Round::of(call(i));
-    }
-    let Pair {
-        mut srpt,
-        mut rival,
-        leases,
-    } = contest(Fcfs::new(), stray, &mut rounds);
-    let Leases {
-        srpt: lease,
-        rival: other,
-        stray,
-    } = leases;
-    hand_back(&mut srpt, lease);
-    hand_back(&mut rival, other);
+    let mut rounds: [Round; 16] = array::from_fn(|i| Round::of(call(i)));
+    let Pair { srpt, rival, stray } = contest(Fcfs::new(), stray, &mut rounds);
+    let srpt = srpt.hand_back();
+    let rival = rival.hand_back();
     let Ok(()) = third.back(stray) else {
         unreachable()
     };

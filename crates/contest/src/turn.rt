@@ -1,61 +1,56 @@
-// One call on both runs of a contest.
-ghost use Rattle.srpt.specs.contracts.srpt_calls.SrptDiscipline.TheImpl.{ghosts};
-ghost use Rattle.contest.specs.Played.{Ready};
-ghost use Rattle.contest.specs.Contested.{Turns};
+// How the two sides of a contest are made, and how both make a call.
+ghost use Rattle.std.specs.Prelude.{◌≡◌, ◌≢◌, [], None};
+ghost use Rattle.contest.specs.Contested.{Fresh, Turns};
 
 use crate::calls::{Call, Outcome, Round};
-use crate::play::{Played, play};
+use crate::pair::Pair;
+use crate::side::Side;
 use discipline::Discipline;
-use run::{Lease, Run};
+use run::Lease;
 use srpt::Srpt;
 
-// The leases of a contest: the one that each run has out, if any, and a stray one, which neither run gave.
-pub struct Leases {
-    pub srpt: Option<Lease>,
-    pub rival: Option<Lease>,
-    pub stray: Lease,
+// Two marks other than a given one.
+fn other_marks(mark: u16) -> (u16, u16)
+    ensures { ((mark ≢ result.0)) × ((mark ≢ result.1)) }
+{
+    match mark {
+        0 => (1, 2),
+        1 => (0, 2),
+        _ => (0, 1),
+    }
 }
 
-// Makes the call on the run over SRPT and then on the rival, and counts in each who is present after it.
-pub(crate) fn turn<'a, D: Discipline>(
-    srpt: &mut Run<Srpt>,
-    rival: &mut Run<D>,
-    leases: Leases,
-    call: Call<'a>,
-) -> (Leases, Round<'a>)
-    requires { (Ready ghosts srpt.old leases.srpt leases.stray) × (Ready D.Discipline rival.old leases.rival leases.stray) }
-    ensures { Turns D.Discipline srpt.old rival.old leases call.entry result.0 result.1 srpt.new rival.new }
-{
-    let Leases {
-        srpt: lease,
-        rival: other,
-        stray,
-    } = leases;
-    let Played {
-        lease,
-        stray,
-        answer: first,
-    } = play(srpt, lease, stray, call);
-    let Played {
-        lease: other,
-        stray,
-        answer: second,
-    } = play(rival, other, stray, call);
-    let round = Round {
-        call,
-        srpt: Outcome {
-            answer: first,
-            present: srpt.present(),
-        },
-        rival: Outcome {
-            answer: second,
-            present: rival.present(),
-        },
-    };
-    let leases = Leases {
-        srpt: lease,
-        rival: other,
-        stray,
-    };
-    (leases, round)
+impl<D: Discipline> Pair<D> {
+    // Two runs with no job yet, with marks other than that of the stray lease.
+    pub(crate) fn new(rival: D, stray: Lease) -> Pair<D>
+        ensures { Fresh D.Discipline stray result }
+    {
+        let (first, second) = other_marks(stray.mark());
+        Pair {
+            srpt: Side::new(Srpt::new(), first),
+            rival: Side::new(rival, second),
+            stray,
+        }
+    }
+
+    // Makes the call on the run over SRPT and then on the rival, and counts in each who is present after it.
+    pub(crate) fn turn<'a>(self, call: Call<'a>) -> (Pair<D>, Round<'a>)
+        ensures { Turns D.Discipline self call.entry result.1 result.0 }
+    {
+        let Pair { srpt, rival, stray } = self;
+        let (srpt, first, stray) = srpt.play(stray, call);
+        let (rival, second, stray) = rival.play(stray, call);
+        let round = Round {
+            call,
+            srpt: Outcome {
+                answer: first,
+                present: srpt.run.present(),
+            },
+            rival: Outcome {
+                answer: second,
+                present: rival.run.present(),
+            },
+        };
+        (Pair { srpt, rival, stray }, round)
+    }
 }
