@@ -8,7 +8,7 @@ pub mod calls;
 pub mod pair;
 mod play;
 pub mod rounds;
-mod show;
+mod shown;
 pub mod side;
 #[cfg(test)]
 mod tests;

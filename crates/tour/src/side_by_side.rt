@@ -1,10 +1,8 @@
 // SRPT beside first come, first served: one list of calls on two runs, printed call by call.
-ghost use Rattle.contest.specs.Contested.{Takes};
-
-use crate::print::summary;
-use contest::{Answer, Call, Hand, Leases, Pair, Round, contest};
-use discipline::{Discipline, Fcfs};
-use run::{Lease, Run};
+use contest::{Call, Hand, Pair, Round, contest};
+use discipline::Fcfs;
+use run::Run;
+use show::Summary;
 use std::alloc::{AllocError, Global};
 use std::io;
 
@@ -51,21 +49,10 @@ fn sample(heap: Global) -> Result<Vec<Round<'static>>, AllocError> {
     Ok(rounds)
 }
 
-// Hands in the lease that a run has out, if any, as a lost tick.
-fn hand_back<D: Discipline>(run: &mut Run<D>, lease: Option<Lease>)
-    requires { Takes D.Discipline run.old lease }
-{
-    if let Some(lease) = lease {
-        let Ok(()) = run.back(lease) else {
-            unreachable()
-        };
-    }
-}
-
 // Whether a round ended a tick.
 fn ends_tick(round: &Round) -> bool {
     match round.call {
-        Call::Done(_) | Call::Back(_) | Call::Pass => matches!(round.srpt.answer, Answer::Accepted),
+        Call::Done(_) | Call::Back(_) | Call::Pass => round.srpt.answer.is_ok(),
         Call::Enter { .. } | Call::Take => false,
     }
 }
@@ -74,11 +61,8 @@ fn ends_tick(round: &Round) -> bool {
 fn print_rounds(rt: &HostRuntime, rounds: &[Round]) -> io::Result<()> {
     let mut tick: u32 = 0;
     for round in rounds {
-        let Round { call, srpt, rival } = *round;
-        println!(rt;
-            "tick {tick}, {call} | srpt: {}; present {} | fcfs: {}; present {}",
-            srpt.answer, srpt.present, rival.answer, rival.present
-        )?;
+        let Round { call, srpt, rival } = round;
+        println!(rt; "tick {tick}, {call} | srpt: {srpt} | fcfs: {rival}")?;
         if ends_tick(round) {
             tick = tick.saturating_add(1);
         }
@@ -94,25 +78,15 @@ pub fn side_by_side(rt: &HostRuntime) -> anyhow::Result<()> {
     let Ok(stray) = third.take() else {
         return Ok(());
     };
-    let Pair {
-        mut srpt,
-        mut rival,
-        leases,
-    } = contest(Fcfs::new(), stray, &mut rounds);
-    let Leases {
-        srpt: lease,
-        rival: other,
-        stray,
-    } = leases;
-    hand_back(&mut srpt, lease);
-    hand_back(&mut rival, other);
+    let Pair { srpt, rival, stray } = contest(Fcfs::new(), stray, &mut rounds);
+    let srpt = srpt.hand_back();
+    let rival = rival.hand_back();
     let Ok(()) = third.back(stray) else {
         unreachable()
     };
     print_rounds(rt, &rounds)?;
-    println!(rt; "srpt, its last lease handed back")?;
-    summary(rt, &srpt)?;
-    println!(rt; "fcfs, its last lease handed back")?;
-    summary(rt, &rival)?;
+    let (srpt, rival) = (Summary::of(&srpt), Summary::of(&rival));
+    println!(rt; "srpt, its last lease handed back\n{srpt}")?;
+    println!(rt; "fcfs, its last lease handed back\n{rival}")?;
     Ok(())
 }

@@ -1,16 +1,15 @@
 // Takes jobs through runs under first come, first served, and prints every action with what it leaves.
 #![tactic(auto)]
 
-mod answer;
 mod print;
-mod ticks;
+mod stray;
 
-use answer::{Answer, Figures};
 use discipline::Fcfs;
 use print::{enter, pass, sojourn, summary, tick};
 use run::Run;
+use show::{After, Answer, End, Figures};
 use std::io;
-use ticks::{lose_interrupted, serve, serve_interrupted, stray};
+use stray::stray;
 
 fn main(rt: HostRuntime) -> io::Result<()> {
     three_jobs(&rt)?;
@@ -24,13 +23,13 @@ fn three_jobs(rt: &HostRuntime) -> io::Result<()> {
     println!(rt; "three jobs under fcfs")?;
     let mut run = Run::new(Fcfs::new(), 7);
     enter(rt, &mut run, "moon", 4)?;
-    tick(rt, serve_interrupted(&mut run, "late"), "done")?;
+    tick(rt, &mut run, Some("late"), End::Done)?;
     enter(rt, &mut run, "comet", 1)?;
     pass(rt, &mut run)?;
-    tick(rt, serve(&mut run), "done")?;
+    tick(rt, &mut run, None, End::Done)?;
     enter(rt, &mut run, "arc", 3)?;
     for _ in 0..7 {
-        tick(rt, serve(&mut run), "done")?;
+        tick(rt, &mut run, None, End::Done)?;
     }
     summary(rt, &run)?;
     sojourn(rt, &run, 2, "arc")?;
@@ -44,10 +43,10 @@ fn lost_and_empty(rt: &HostRuntime) -> io::Result<()> {
     println!(rt; "a lost tick and an empty one")?;
     let mut run = Run::new(Fcfs::new(), 8);
     enter(rt, &mut run, "star", 1)?;
-    tick(rt, lose_interrupted(&mut run, "late"), "back")?;
+    tick(rt, &mut run, Some("late"), End::Back)?;
     enter(rt, &mut run, "late", 1)?;
-    tick(rt, serve(&mut run), "done")?;
-    tick(rt, serve(&mut run), "done")?;
+    tick(rt, &mut run, None, End::Done)?;
+    tick(rt, &mut run, None, End::Done)?;
     pass(rt, &mut run)?;
     summary(rt, &run)
 }
@@ -59,9 +58,9 @@ fn two_runs(rt: &HostRuntime) -> io::Result<()> {
     let mut other = Run::new(Fcfs::new(), 10);
     enter(rt, &mut own, "star", 2)?;
     enter(rt, &mut other, "star", 2)?;
-    let answer = Answer::plain(stray(&mut own, &mut other));
-    let after = Figures::of(&other);
-    println!(rt; "done by the other: {answer}; {after}")?;
+    let answer = Answer::from(stray(&mut own, &mut other));
+    let figures = Figures::of(&other);
+    println!(rt; "done by the other: {}", After { answer, figures })?;
     let after = Figures::of(&own);
     println!(rt; "back by its own: accepted; {after}")
 }

@@ -1,11 +1,7 @@
 // Actions on a run, each printed on a line with its answer and the figures after it.
-ghost use Rattle.run.specs.Runs.{StaysTied};
-
-use crate::answer::{Answer, Figures};
-use crate::ticks::Ticked;
 use discipline::Discipline;
-use refusal::Refusal;
 use run::Run;
+use show::{After, Answer, End, Summary, TickReport};
 use std::io;
 
 // A job tries to enter.
@@ -14,52 +10,32 @@ pub fn enter<D: Discipline>(
     run: &mut Run<D>,
     name: &str,
     size: u32,
-) -> io::Result<()>
-    ensures { StaysTied D.Discipline run.old run.new }
-{
-    let answer = Answer::job(run.enter(name.as_bytes(), size));
-    let after = Figures::of(run);
-    println!(rt; "enter {name} {size}: {answer}; {after}")
+) -> io::Result<()> {
+    let after = After::enter(run, name, size);
+    println!(rt; "enter {name} {size}: {after}")
 }
 
 // The run is asked for an empty tick.
-pub fn pass<D: Discipline>(rt: &HostRuntime, run: &mut Run<D>) -> io::Result<()>
-    ensures { StaysTied D.Discipline run.old run.new }
-{
-    let answer = Answer::plain(run.pass());
-    let after = Figures::of(run);
-    println!(rt; "pass: {answer}; {after}")
+pub fn pass<D: Discipline>(rt: &HostRuntime, run: &mut Run<D>) -> io::Result<()> {
+    let after = After::pass(run);
+    println!(rt; "pass: {after}")
 }
 
-// What was answered in a tick under a lease that ended so, or why no lease was given.
-pub fn tick(rt: &HostRuntime, ticked: Result<Ticked, Refusal>, end: &str) -> io::Result<()> {
-    let ticked = match ticked {
-        Ok(ticked) => ticked,
-        Err(cause) => {
-            let answer = Answer::Refused(cause);
-            return println!(rt; "take: {answer}");
-        }
-    };
-    let Ticked {
-        job,
-        taken,
-        late,
-        ended,
-    } = ticked;
-    println!(rt; "take: job {job}; {taken}")?;
-    if let Some((answer, after)) = late {
-        println!(rt; "enter meanwhile: {answer}; {after}")?;
-    }
-    println!(rt; "{end}: accepted; {ended}")
+// A whole tick that ends so, in which a job with the name `late`, if one is given, tries to enter.
+pub fn tick<D: Discipline>(
+    rt: &HostRuntime,
+    run: &mut Run<D>,
+    late: Option<&str>,
+    end: End,
+) -> io::Result<()> {
+    let tick = show::tick(run, late, end);
+    println!(rt; "{}", TickReport { tick })
 }
 
 // The figures of a whole run.
 pub fn summary<D: Discipline>(rt: &HostRuntime, run: &Run<D>) -> io::Result<()> {
-    let end = run.clock();
-    let total = run.total();
-    let most = run.most();
-    let longest = run.longest();
-    println!(rt; "end {end}, total {total}, most {most}, longest {longest}")
+    let summary = Summary::of(run);
+    println!(rt; "{summary}")
 }
 
 // The sojourn of one job.
@@ -71,9 +47,6 @@ pub fn sojourn<D: Discipline>(
 ) -> io::Result<()> {
     match run.sojourn(job) {
         Ok(sojourn) => println!(rt; "sojourn of {name}: {sojourn}"),
-        Err(cause) => {
-            let answer = Answer::Refused(cause);
-            println!(rt; "sojourn of {name}: {answer}")
-        }
+        Err(cause) => println!(rt; "sojourn of {name}: {}", Answer { told: Err(cause) }),
     }
 }

@@ -1,5 +1,6 @@
-// How calls and answers are printed.
+// How calls and outcomes are printed.
 use crate::calls::{Call, Hand, Outcome, Reply};
+use show::Answer;
 use std::fmt;
 use std::str::from_utf8;
 
@@ -28,11 +29,12 @@ impl fmt::Display for Call<'_> {
     }
 }
 
-impl fmt::Display for Reply {
-    fn fmt<W: fmt::Write>(&self, f: &mut fmt::Formatter<W>) -> fmt::Result {
+impl Reply {
+    // The job that it names, if any.
+    fn job(self) -> Option<u32> {
         match self {
-            Reply::Entered(number) | Reply::Leased(number) => write!(f, "job {number}"),
-            Reply::Accepted => f.write_str("accepted"),
+            Reply::Entered(number) | Reply::Leased(number) => Some(number),
+            Reply::Accepted => None,
         }
     }
 }
@@ -40,10 +42,9 @@ impl fmt::Display for Reply {
 // The answer, and who was then present.
 impl fmt::Display for Outcome {
     fn fmt<W: fmt::Write>(&self, f: &mut fmt::Formatter<W>) -> fmt::Result {
-        match self.answer {
-            Ok(reply) => write!(f, "{reply}")?,
-            Err(cause) => write!(f, "refused {}, {cause}", cause.number())?,
-        }
-        write!(f, "; present {}", self.present)
+        let answer = Answer {
+            told: self.answer.map(Reply::job),
+        };
+        write!(f, "{answer}; present {}", self.present)
     }
 }

@@ -1,0 +1,114 @@
+// A whole tick of a run. It takes a lease and hands it in before anything is printed, so that an
+// error of the output can never lose one.
+ghost use Rattle.std.specs.Prelude.{◌≡◌, ◌+◌, IfOk, OnOk, OnErr};
+ghost use Rattle.run.specs.Runs.{meaning};
+ghost use Rattle.run.specs.Steps.{done_rule};
+ghost use Rattle.show.specs.Shown.{figures_of};
+
+use crate::after::After;
+use crate::answer::Answer;
+use crate::figures::Figures;
+use discipline::Discipline;
+use refusal::Refusal;
+use run::{Lease, Run};
+use std::fmt;
+
+// How a tick ends: with a unit done on the leased job, or lost.
+#[derive(Clone, Copy)]
+pub enum End {
+    Done,
+    Back,
+}
+
+// What was answered in a tick, and the figures after each answer: the lease, a job that tried to
+// enter while the lease was out, and the end.
+#[derive(Clone, Copy)]
+pub struct Ticked {
+    pub job: u32,
+    pub taken: Figures,
+    pub late: Option<After>,
+    pub end: End,
+    pub ended: Figures,
+}
+
+// A job of size 1 with the name given, if one is, tries to enter.
+fn enter_late<D: Discipline>(run: &mut Run<D>, name: Option<&str>) -> Option<After>
+    ensures { (meaning D.Discipline run.new).accounts ≡ (meaning D.Discipline run.old).accounts }
+{
+    match name {
+        Some(name) => Some(After::enter(run, name, 1)),
+        None => None,
+    }
+}
+
+fn hand_in<D: Discipline>(run: &mut Run<D>, lease: Lease, end: End) -> Result<(), (Refusal, Lease)>
+    ensures answers { result ≡ done_rule (meaning D.Discipline run.old) lease }
+    ensures time { OnOk result ((meaning D.Discipline run.new).accounts.clock ≡ (meaning D.Discipline run.old).accounts.clock + 1) }
+{
+    match end {
+        End::Done => run.done(lease),
+        End::Back => run.back(lease),
+    }
+}
+
+// A tick that ends so, in which a job of size 1 and the name `late`, if one is given, tries to enter while the lease is out.
+// Refused where the run gives no lease.
+pub fn tick<D: Discipline>(
+    run: &mut Run<D>,
+    late: Option<&str>,
+    end: End,
+) -> Result<Ticked, Refusal>
+    ensures refused { OnErr result (meaning D.Discipline run.new ≡ meaning D.Discipline run.old) }
+    ensures time { OnOk result ((meaning D.Discipline run.new).accounts.clock ≡ (meaning D.Discipline run.old).accounts.clock + 1) }
+    ensures shows { IfOk result (λ ticked. ticked.ended ≡ figures_of (meaning D.Discipline run.new)) }
+{
+    let lease = run.take()?;
+    let job = lease.job();
+    let taken = Figures::of(run);
+    let late = enter_late(run, late);
+    let Ok(()) = hand_in(run, lease, end) else {
+        unreachable()
+    };
+    Ok(Ticked {
+        job,
+        taken,
+        late,
+        end,
+        ended: Figures::of(run),
+    })
+}
+
+impl fmt::Display for End {
+    fn fmt<W: fmt::Write>(&self, f: &mut fmt::Formatter<W>) -> fmt::Result {
+        f.write_str(match self {
+            End::Done => "done",
+            End::Back => "back",
+        })
+    }
+}
+
+// A tick, or why the run gave no lease, as it is printed.
+#[derive(Clone, Copy)]
+pub struct TickReport {
+    pub tick: Result<Ticked, Refusal>,
+}
+
+impl fmt::Display for TickReport {
+    fn fmt<W: fmt::Write>(&self, f: &mut fmt::Formatter<W>) -> fmt::Result {
+        match self.tick {
+            Ok(ticked) => write!(f, "{ticked}"),
+            Err(cause) => write!(f, "take: {}", Answer { told: Err(cause) }),
+        }
+    }
+}
+
+// A line for each call of the tick.
+impl fmt::Display for Ticked {
+    fn fmt<W: fmt::Write>(&self, f: &mut fmt::Formatter<W>) -> fmt::Result {
+        writeln!(f, "take: job {}; {}", self.job, self.taken)?;
+        if let Some(late) = self.late {
+            writeln!(f, "enter meanwhile: {late}")?;
+        }
+        write!(f, "{}: accepted; {}", self.end, self.ended)
+    }
+}
