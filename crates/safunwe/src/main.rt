@@ -1,10 +1,14 @@
 // The console program: prints the lines of the trace on standard input and their numbers, or why it is refused.
 #![tactic(auto)]
 
+ghost use Rattle.trace.specs.Answers.{TraceRead};
+ghost use Rattle.trace.specs.declared.whole.Counts.{Counts};
+
 use std::io;
 use std::io::{BufWriter, Read, Write};
-use trace::line::{LineTokens, line_at};
-use trace::whole::{MAX_TRACE, whole_trace};
+use trace::line::LineTokens;
+use trace::lines::Lines;
+use trace::whole::{Counts, MAX_TRACE, whole_trace};
 
 // The most bytes that are read: one more than a trace may have, by which a longer input is known.
 const MAX_READ: u64 = MAX_TRACE as u64 + 1;
@@ -23,15 +27,13 @@ fn print_line<W: Write>(out: &mut W, place: usize, line: &LineTokens) -> io::Res
     }
 }
 
-// Every line of an accepted trace, in which a line stands at each place where the one before it ends.
-fn print_lines<W: Write>(out: &mut W, trace: &[u8]) -> io::Result<()> {
-    let mut place = 0;
-    while place < trace.len() {
-        let Ok((line, next)) = line_at(trace, place) else {
-            break;
-        };
+// Every line of an accepted trace, none of which is refused.
+fn print_lines<W: Write>(out: &mut W, trace: &[u8]) -> io::Result<()>
+    requires { (counts : Counts) × TraceRead trace.now counts }
+{
+    for line in Lines::new(trace) {
+        let (line, place) = line.unwrap();
         print_line(out, place, &line)?;
-        place = next;
     }
     Ok(())
 }
@@ -41,10 +43,8 @@ fn run(rt: &HostRuntime) -> io::Result<()> {
     rt.stdin().take(MAX_READ).read_to_end(&mut trace)?;
     let mut out = BufWriter::new(rt.alloc(), rt.stdout())?;
     match whole_trace(&trace) {
-        Ok(counts) => {
+        Ok(Counts { jobs, lines }) => {
             print_lines(&mut out, &trace)?;
-            let jobs = counts.jobs;
-            let lines = counts.lines;
             writeln!(out, "jobs {jobs} lines {lines}")?;
         }
         Err(refused) => writeln!(out, "{refused}")?,

@@ -4,3 +4,4 @@ pub mod Unique
 pub mod Reading
 pub mod Sofar
 pub mod Settled
+pub mod Ahead

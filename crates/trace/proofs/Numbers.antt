@@ -1,10 +1,10 @@
 -- What a spelled number looks like, and that digits with no leading zero are one.
-use Rattle.std.proofs.Common.{◌≡◌, ℕ, zero, suc, ◌+◌, ◌-◌, ◌*◌, ◌<◌, ◌≤◌, true, eqb, List, length, get_or, take, decimal, sym, refl, ap, ◌∙◌, subst, ⊎_elim, arith, length-take-le, rules}
+use Rattle.std.proofs.Common.{◌≡◌, ℕ, zero, suc, ◌<◌, ◌≤◌, true, eqb, List, length, get_or, take, decimal, sym, refl, ap, ◌∙◌, subst, ⊎_elim, arith, length-take-le}
 use Rattle.std.specs.Int.{IsInRange}
-use Rattle.std.specs.Char.{digit_value as value_of_digit}
+use Rattle.std.specs.Char.{digit_value}
 use Rattle.std.specs.Str.Parse.{AllDigits, digits_value}
+use Rattle.std.proofs.lemmas.Str.{digit_value_digit}
 use Rattle.std.proofs.lemmas.Str.Parse.{IsNumeralModel, digits_value_short, numerals_by_value, tells_digits, digit_at}
-use Rattle.std.proofs.lemmas.Int.Digits.{digits_value_more, digits_more}
 use Rattle.std.proofs.lemmas.Fmt.{decimal-digits_value, digits_value-decimal, digits_decimal, decimal_nonempty, decimal_digit, first_decimal, length-decimal-le}
 use Rattle.std.proofs.ByRecursion.{All-from_get_or}
 use Rattle.std.proofs.lemmas.Bool.{and_from, and_parts, or_left, or_right, or_cases, le-leb, leb-true, eq-eqb, eqb-true, cases_Bool, not_from_false, not-true, both_ways}
@@ -30,24 +30,19 @@ lead (suc v) l e = absurd (omega (arith, first_decimal (suc v) (omega arith) (om
 pub spells_lead : (bs : List ℕ) (v : ℕ) → Spells bs v → get_or bs 0 0 ≡ 48 → length bs ≡ 1
 spells_lead bs v h e = ap length h.1 ∙ lead v h.0 (ap (λ l. get_or l 0 0) (sym h.1) ∙ e)
 
--- .. and all are digits.
+-- .. and all are digits,
 pub spells_digit : (bs : List ℕ) (v i : ℕ) → Spells bs v → i < length bs → IsInRange 48 57 (get_or bs i 0)
 spells_digit bs v i h l = digit_at bs i (subst (AllDigits 10) (sym h.1) (digits_decimal own v (omega arith))) l
 
-digit_value : (c : ℕ) → 48 ≤ c → c ≤ 57 → value_of_digit c ≡ c - 48
-digit_value c lo hi = search rules
+-- .. each of which counts less than ten.
+pub spells_below : (bs : List ℕ) (v i : ℕ) → Spells bs v → i < length bs → digit_value (get_or bs i 0) < 10
+spells_below bs v i h l = let d = spells_digit bs v i h l in omega (arith, d.1, digit_value_digit (get_or bs i 0) d)
 
 -- The value of what a loop over at most six digits has read before one of them.
 pub small : (bs : List ℕ) (i : ℕ) → i < length bs → length bs ≤ 6 → AllDigits 10 (take i bs) → digits_value 10 (take i bs) < 100000
 small bs i l six d =
     let long : length (take i bs) ≤ 5 = omega (arith, length-take-le i bs (omega arith)) in
     digits_value_short own (take i bs) 5 d long
-
--- One digit more.
-pub step : (bs : List ℕ) (i v : ℕ) → i < length bs → 48 ≤ get_or bs i 0 → get_or bs i 0 ≤ 57 → AllDigits 10 (take i bs) → v ≡ digits_value 10 (take i bs) → AllDigits 10 (take (i + 1) bs) × (v * 10 + (get_or bs i 0 - 48) ≡ digits_value 10 (take (i + 1) bs))
-step bs i v l lo hi d e =
-    let w = digit_value (get_or bs i 0) lo hi in
-    (digits_more 10 bs i l d (omega (arith, w)), omega (arith, w, digits_value_more 10 bs i l))
 
 -- Bytes that spell a number are short ..
 pub spells_short : (bs : List ℕ) (n : ℕ) → Spells bs n → is_short bs ≡ true

@@ -1,27 +1,49 @@
 -- From the tokens that are read to the line that stands at a place.
-use Rattle.std.proofs.Common.{◌≡◌, ℕ, ◌+◌, ◌-◌, ◌≤◌, List, [], ◌∷◌, ◌++◌, length, take, drop, decimal, sym, ap, ◌∙◌, subst, append_assoc, arith}
+use Rattle.std.proofs.Common.{◌≡◌, ℕ, ◌+◌, ◌≤◌, List, [], ◌∷◌, ◌++◌, length, drop, codes, decimal, sym, ap, ◌∙◌, subst, append_assoc, arith}
+use Rattle.std.specs.List.{slice_range}
 use Rattle.std.proofs.lemmas.List.{drop_all, drop_at, drop-drop, length_push, take_rest}
-use Rattle.trace.specs.Lines.{Lacks, Word, Line, job, Formed, fields, spelled, Stands}
-use Rattle.trace.specs.Tokens.{value_of, line_of}
+use Rattle.trace.specs.Lines.{Spells, Lacks, Word, Line, job, lost, Formed, fields, spelled, Stands}
+use Rattle.trace.specs.Tokens.{TokensAt, line_of}
 use Rattle.trace.specs.Inner.{ReadsNumber, ReadsWord, ReadsFields, ReadsTokens}
 use Rattle.trace.specs.Answers.{LineFound}
-use Rattle.trace.specs.declared.token.PlacedToken.{PlacedToken}
+use Rattle.trace.specs.declared.token.Word.{Word as WordToken}
+use Rattle.trace.specs.declared.token.Number.{Number}
 use Rattle.trace.specs.declared.line.LineTokens.{LineTokens}
 use Rattle.trace.proofs.Cuts.{no_cut, same_cut}
 use Rattle.trace.proofs.Numbers.{decimal_lacks}
-use Rattle.trace.proofs.Unique.{lacks_lf}
+use Rattle.trace.proofs.Unique.{apart, lacks_lf}
 
 -- Past the end no line stands ..
 pub past_end : (trace : List ℕ) (p : ℕ) → length trace ≤ p → (l : Line) → Stands trace p l → ⊥
 past_end trace p end l h = no_cut 10 [] (spelled l) h.1.0 tt (sym (drop_all p trace end) ∙ h.1.1)
 
 -- .. nor where no LF follows.
-pub no_lf : (trace : List ℕ) (p : ℕ) → Lacks 10 (take (length trace - p) (drop p trace)) → (l : Line) → Stands trace p l → ⊥
-no_lf trace p lacks l h = no_cut 10 _ (spelled l) h.1.0 lacks (take_rest trace p ∙ h.1.1)
+pub no_lf : (trace : List ℕ) (p : ℕ) (bs : List ℕ) → bs ≡ slice_range trace p (length trace) → Lacks 10 bs → (l : Line) → Stands trace p l → ⊥
+no_lf trace p bs e lacks l h = no_cut 10 bs (spelled l) h.1.0 lacks (e ∙ take_rest trace p ∙ h.1.1)
 
 -- The bytes up to the first LF are those of the line that stands there.
-pub up_to_lf : (trace : List ℕ) (p : ℕ) (line rest : List ℕ) → Lacks 10 line → take (length trace - p) (drop p trace) ≡ line ++ 10 ∷ rest → (l : Line) → Stands trace p l → line ≡ spelled l
-up_to_lf trace p line rest lacks e l h = (same_cut 10 _ _ _ _ lacks (lacks_lf l h.0) (sym e ∙ take_rest trace p ∙ h.1.1)).0
+pub up_to_lf : (trace : List ℕ) (p : ℕ) (bs line rest : List ℕ) → bs ≡ slice_range trace p (length trace) → Lacks 10 line × (bs ≡ line ++ 10 ∷ rest) → (l : Line) → Stands trace p l → line ≡ spelled l
+up_to_lf trace p bs line rest e c l h = (same_cut 10 _ _ _ _ c.0 (lacks_lf l h.0) (sym c.1 ∙ e ∙ take_rest trace p ∙ h.1.1)).0
+
+-- The keyword of a line ..
+abbrev pub keyword : Line → List ℕ
+keyword (job t s n) = codes "job"
+keyword (lost t) = codes "lost"
+
+-- .. and what follows it and its space.
+abbrev pub content : Line → List ℕ
+content (job t s n) = fields t s n
+content (lost t) = decimal t
+
+-- The bytes of a line are cut at their first space behind the keyword.
+pub keyword_cut : (l : Line) (bs first rest : List ℕ) → Lacks 32 first × (bs ≡ first ++ 32 ∷ rest) → bs ≡ spelled l → (first ≡ keyword l) × (rest ≡ content l)
+keyword_cut (job t s n) bs first rest p e = same_cut 32 _ _ (codes "job") _ p.0 (apart 32 106 (omega arith), (apart 32 111 (omega arith), (apart 32 98 (omega arith), tt))) (sym p.1 ∙ e)
+keyword_cut (lost t) bs first rest p e = same_cut 32 _ _ (codes "lost") _ p.0 (apart 32 108 (omega arith), (apart 32 111 (omega arith), (apart 32 115 (omega arith), (apart 32 116 (omega arith), tt)))) (sym p.1 ∙ e)
+
+-- Bytes cut behind the keyword of a lost line, where what follows is no number, are no line.
+pub no_lost : (l : Line) (first rest : List ℕ) → Formed l → first ≡ codes "lost" → (first ≡ keyword l) × (rest ≡ content l) → ((n : ℕ) → Spells rest n → ⊥) → ⊥
+no_lost (job t s n) first rest f e h none = let z : ◌≡◌ {A = ℕ} 106 108 = cc in omega arith
+no_lost (lost t) first rest f e h none = none t (f, h.1)
 
 -- The bytes of a job line's fields are cut at their first space behind the tick ..
 pub tick_cut : (t s : ℕ) (n : List ℕ) → Formed (job t s n) → (bs first more : List ℕ) → Lacks 32 first × (bs ≡ first ++ 32 ∷ more) → bs ≡ fields t s n → (first ≡ decimal t) × (more ≡ decimal s ++ 32 ∷ n)
@@ -32,21 +54,21 @@ pub size_cut : (t s : ℕ) (n : List ℕ) → Formed (job t s n) → (bs first m
 size_cut t s n f bs first more second last p q e = same_cut 32 _ _ _ _ q.0 (decimal_lacks 32 s (omega arith) f.1) (sym q.1 ∙ (tick_cut t s n f bs first more p e).1)
 
 -- Three tokens that are read of bytes parted by spaces are those of the fields.
-pub fields_read : (bs first more second last : List ℕ) (p : ℕ) (t s n : PlacedToken) → bs ≡ first ++ 32 ∷ more → more ≡ second ++ 32 ∷ last
-    → ReadsNumber first p t → ReadsNumber second (p + length first + 1) s → ReadsWord last (p + length first + 1 + length second + 1) n
-    → ReadsFields bs p t s n
-fields_read bs first more second last p t s n e f a b d = (
-  (a.2.0, b.2.0, subst Word (sym d.1) d.2),
-  e ∙ (λ i. a.2.1 i ++ 32 ∷ f i) ∙ (λ i. decimal (value_of t.token) ++ 32 ∷ (b.2.1 i ++ 32 ∷ sym d.1 i)),
-  a.0,
-  (b.0.0, b.0.1, omega (arith, a.0.2, b.0.2, ap length a.1)),
-  (d.0.0, omega (arith, b.0.2, d.0.1, ap length b.1)),
+pub fields_read : (bs first more second last : List ℕ) (start p q r : ℕ) (t s : Number) (n : WordToken) → bs ≡ first ++ 32 ∷ more → more ≡ second ++ 32 ∷ last
+    → ReadsNumber first p t → ReadsNumber second q s → ReadsWord last r n → p ≡ start → q ≡ start + length first + 1 → r ≡ q + length second + 1
+    → ReadsFields bs start t s n
+fields_read bs first more second last start p q r t s n e f a b d o g h = (
+  (a.2.0, b.2.0, subst Word (sym d.0) d.2),
+  e ∙ (λ i. a.2.1 i ++ 32 ∷ f i) ∙ (λ i. decimal t.value ++ 32 ∷ (b.2.1 i ++ 32 ∷ sym d.0 i)),
+  (a.0 ∙ a.2.1, a.1 ∙ o),
+  (b.0 ∙ b.2.1, omega (arith, a.1, b.1, ap length a.0, o, g)),
+  omega (arith, b.1, d.1, ap length b.0, h),
 )
 
 -- The line whose tokens are read up to an LF is found.
-pub found : (trace : List ℕ) (p : ℕ) (line rest : List ℕ) (ts : LineTokens) (next : ℕ) → take (length trace - p) (drop p trace) ≡ line ++ 10 ∷ rest → ReadsTokens line p ts → next ≡ p + length line + 1 → LineFound trace p ts next
-found trace p line rest ts next e r n =
-    record { stands = (r.0, (rest, sym (take_rest trace p) ∙ e ∙ ap (λ b. b ++ 10 ∷ rest) r.1)); placed = r.2; after = n ∙ ap (λ b. p + length b + 1) r.1 }
+pub found : (trace : List ℕ) (p : ℕ) (bs line rest : List ℕ) (ts : LineTokens) (start next : ℕ) → bs ≡ slice_range trace p (length trace) → bs ≡ line ++ 10 ∷ rest → ReadsTokens line start ts → start ≡ p → next ≡ p + length line + 1 → LineFound trace p ts next
+found trace p bs line rest ts start next d e r s n =
+    record { stands = (r.0, (rest, sym (take_rest trace p) ∙ sym d ∙ e ∙ ap (λ b. b ++ 10 ∷ rest) r.1)); placed = subst (λ q. TokensAt q ts) s r.2; after = n ∙ ap (λ b. p + length b + 1) r.1 }
 
 -- What is left of the trace behind a line that is read.
 pub left_behind : (trace : List ℕ) (p : ℕ) (ts : LineTokens) (next : ℕ) (f : LineFound trace p ts next) → drop next trace ≡ f.stands.1.0

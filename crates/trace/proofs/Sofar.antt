@@ -1,5 +1,5 @@
 -- What the loop over the lines keeps, and what it comes to.
-use Rattle.std.proofs.Common.{◌≡◌, ℕ, ◌+◌, ◌<◌, ◌≤◌, cond, List, [], ◌∷◌, ◌++◌, length, drop, None, sym, refl, ap, ◌∙◌, subst, inl, inr, ⊎_elim, append_assoc, append-nil, arith}
+use Rattle.std.proofs.Common.{◌≡◌, ℕ, ◌+◌, ◌<◌, ◌≤◌, cond, List, [], ◌∷◌, ◌++◌, length, drop, Some, None, Ok, Err, sym, refl, ap, ◌∙◌, subst, inl, inr, ⊎_elim, append_assoc, append-nil, arith}
 use Rattle.std.proofs.lemmas.List.{length-append, length_push, flat_map_more, drop_all}
 use Rattle.std.proofs.lemmas.List.Sums.{fold_push}
 use Rattle.refusal.specs.declared.Refusal.{Refusal}
@@ -8,8 +8,11 @@ use Rattle.trace.specs.Lines.{Line, Formed, spelled, text}
 use Rattle.trace.specs.Rules.{is_job, jobs, opens, earliest, fault, misplaced, first, fault_after, Keep}
 use Rattle.trace.specs.Tokens.{line_of}
 use Rattle.trace.specs.Inner.{SeenMore}
-use Rattle.trace.specs.Answers.{LineRead, Stopped, LineRefused, LinesRead, LinesRefused}
+use Rattle.trace.specs.Answers.{reported, LineRead, Stopped, LineRefused, LinesRead, LinesRefused}
+use Rattle.trace.specs.Walk.{GivesLine}
 use Rattle.trace.specs.declared.line.LineTokens.{LineTokens}
+use Rattle.trace.specs.declared.lines.Lines.{Lines}
+use Rattle.trace.specs.declared.refused.TraceRefusal.{TraceRefusal}
 use Rattle.trace.specs.declared.whole.Seen.{Seen}
 use Rattle.trace.proofs.Reading.{left_behind}
 
@@ -19,11 +22,11 @@ pub record Sofar (trace : List ℕ) (start p : ℕ) (s : Seen) : Type 0 where
   pub keeps : Keep [] before
   pub spells : drop start trace ≡ text before ++ drop p trace
   pub follows : p ≡ start + length (text before)
-  pub jobs_are : s.jobs ≡ jobs before
-  pub lines_are : s.lines ≡ length before
+  pub jobs_are : s.counts.jobs ≡ jobs before
+  pub lines_are : s.counts.lines ≡ length before
   pub earliest_is : s.earliest ≡ earliest before
-  pub few : s.jobs ≤ 1024
-  pub short : s.lines ≤ p
+  pub few : s.counts.jobs ≤ 1024
+  pub short : s.counts.lines ≤ p
 
 -- One line more that is not refused.
 keep_push : (ps ls : List Line) (l : Line) → Keep ps ls → Formed l → fault_after (ps ++ ls) l ≡ None → Keep ps (ls ++ l ∷ [])
@@ -31,12 +34,12 @@ keep_push ps [] l g f e = (f, subst (λ ks. fault_after ks l ≡ None) (append-n
 keep_push ps (k ∷ ls) l g f e = (g.0, g.1, keep_push (ps ++ k ∷ []) ls l g.2 f (subst (λ ks. fault_after ks l ≡ None) (sym (append_assoc ps (k ∷ []) ls)) e))
 
 -- Judged by what is seen as by the lines themselves.
-same_judged : (trace : List ℕ) (start p : ℕ) (s : Seen) (h : Sofar trace start p s) (l : Line) → fault l ≡ None → misplaced s.earliest s.jobs l ≡ fault_after h.before l
+same_judged : (trace : List ℕ) (start p : ℕ) (s : Seen) (h : Sofar trace start p s) (l : Line) → fault l ≡ None → misplaced s.earliest s.counts.jobs l ≡ fault_after h.before l
 same_judged trace start p s h l f = (λ i. misplaced (h.earliest_is i) (h.jobs_are i) l) ∙ ap (λ o. first o (misplaced (earliest h.before) (jobs h.before) l)) (sym f)
 
 -- The loop goes on behind a line that is neither refused for itself nor for those before it.
 pub goes_on : (trace : List ℕ) (start p : ℕ) (s m : Seen) (ts : LineTokens) (next : ℕ) → Sofar trace start p s → LineRead trace p ts next
-    → misplaced s.earliest s.jobs (line_of ts) ≡ None → SeenMore s (line_of ts) m → Sofar trace start next m
+    → misplaced s.earliest s.counts.jobs (line_of ts) ≡ None → SeenMore s (line_of ts) m → Sofar trace start next m
 goes_on trace start p s m ts next h r o c =
     let l = line_of ts in
     let ls = h.before in
@@ -58,7 +61,7 @@ goes_on trace start p s m ts next h r o c =
     }
 
 -- At the end of the trace all of it is read.
-pub at_end : (trace : List ℕ) (start p : ℕ) (s : Seen) → Sofar trace start p s → length trace ≤ p → LinesRead trace start (record { jobs = s.jobs; lines = s.lines })
+pub at_end : (trace : List ℕ) (start p : ℕ) (s : Seen) → Sofar trace start p s → length trace ≤ p → LinesRead trace start s.counts
 at_end trace start p s h end =
     record { lines = h.before; spells = h.spells ∙ ap (λ x. text h.before ++ x) (drop_all p trace end) ∙ append-nil _; keeps = h.keeps; jobs_counted = h.jobs_are; lines_counted = h.lines_are }
 
@@ -69,3 +72,20 @@ module _ (trace : List ℕ) (start p : ℕ) (s : Seen) (h : Sofar trace start p 
   -- The line at p is refused for what it says, or is none.
   pub by_itself : (r : ℕ × ℕ) → LineRefused trace p r → LinesRefused trace start r
   by_itself r (c, e, x) = subst (LinesRefused trace start) (sym e) (stopped c (⊎_elim (λ y. inl y) (λ y. inr (y.0, y.1, ap (λ o. first o (misplaced (earliest h.before) (jobs h.before) y.0)) y.2)) x))
+
+-- The lines of a trace are gone through up to a place, and s is what those before it come to.
+pub record Walked (trace : List ℕ) (w : Lines) (s : Seen) : Type 0 where
+  pub same : w.trace.now ≡ trace
+  pub sofar : Sofar trace 0 w.place s
+
+-- A line that is refused by itself ends the walk.
+pub refused_line : (trace : List ℕ) (w t : Lines) (s : Seen) (e : TraceRefusal) → Walked trace w s → GivesLine w (Some (Err e)) t → LinesRefused trace 0 (reported e)
+refused_line trace w t s e h g = by_itself trace 0 w.place s h.sofar (subst (λ l. w.place < length l) h.same g.gives.0) (reported e) (subst (λ l. LineRefused l w.place (reported e)) h.same g.gives.1.0)
+
+-- A line that is not refused takes it on.
+pub walks_on : (trace : List ℕ) (w t : Lines) (s m : Seen) (ts : LineTokens) (p : ℕ) → Walked trace w s → GivesLine w (Some (Ok (ts, p))) t
+    → misplaced s.earliest s.counts.jobs (line_of ts) ≡ None → SeenMore s (line_of ts) m → Walked trace t m
+walks_on trace w t s m ts p h g o c = record {
+  same = g.same ∙ h.same;
+  sofar = goes_on trace 0 w.place s m ts t.place h.sofar (subst (λ l. LineRead l w.place ts t.place) h.same g.gives.1.1) o c;
+}

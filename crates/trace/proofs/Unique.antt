@@ -8,7 +8,7 @@ use Rattle.trace.proofs.Cuts.{same_cut, no_cut}
 use Rattle.trace.proofs.Numbers.{decimal_lacks}
 
 -- A byte above another is not that byte.
-apart : (b c : ℕ) → b < c → c ≡ b → ⊥
+pub apart : (b c : ℕ) → b < c → c ≡ b → ⊥
 apart b c l e = omega arith
 
 -- A line has no LF.

@@ -1,11 +1,10 @@
 -- What the private functions of the reader answer; no public contract cites it.
-use Rattle.std.specs.Prelude.{◌≡◌, ℕ, ◌+◌, ◌≤◌, Bool, cond, not, ◌&&◌, ◌||◌, List, ◌++◌, length, codes, ◌==◌, ◌≢◌, nat_le, slice_index}
+use Rattle.std.specs.Prelude.{◌≡◌, ℕ, ◌+◌, ◌≤◌, Bool, cond, not, ◌&&◌, ◌||◌, List, length, ◌==◌, nat_le, slice_index}
 use Rattle.trace.specs.Lines.{Spells, Word, Line, job, Formed, fields, spelled}
 use Rattle.trace.specs.Rules.{is_job, opens}
-use Rattle.trace.specs.Tokens.{bytes_of, value_of, behind, WordAt, NumberAt, TokensAt, line_of}
-use Rattle.trace.specs.declared.token.PlacedToken.{PlacedToken}
-use Rattle.trace.specs.declared.line.Head.{Head}
-use Rattle.trace.specs.declared.line.Head.TheVariants.{Job, Lost, Neither}
+use Rattle.trace.specs.Tokens.{behind, NumberAt, TokensAt, line_of}
+use Rattle.trace.specs.declared.token.Word.{Word as WordToken}
+use Rattle.trace.specs.declared.token.Number.{Number}
 use Rattle.trace.specs.declared.line.LineTokens.{LineTokens}
 use Rattle.trace.specs.declared.whole.Seen.{Seen}
 
@@ -13,26 +12,20 @@ use Rattle.trace.specs.declared.whole.Seen.{Seen}
 abbrev pub is_short : List ℕ → Bool
 is_short bs = nat_le 1 (length bs) && (nat_le (length bs) 6 && (not (slice_index bs 0 == 48) || length bs == 1))
 
--- The token is the number that the bytes spell, with the place p.
-abbrev pub ReadsNumber : List ℕ → ℕ → PlacedToken → Type 0
-ReadsNumber bs p t = NumberAt p t × (bytes_of t.token ≡ bs) × Spells bs (value_of t.token)
-
 -- The token is the word that the bytes are, with the place p.
-abbrev pub ReadsWord : List ℕ → ℕ → PlacedToken → Type 0
-ReadsWord bs p t = WordAt p t × (bytes_of t.token ≡ bs) × Word bs
+abbrev pub ReadsWord : List ℕ → ℕ → WordToken → Type 0
+ReadsWord bs p t = (t.bytes.now ≡ bs) × (t.place ≡ p) × Word bs
+
+-- The token is the number that the bytes spell, with the place p.
+abbrev pub ReadsNumber : List ℕ → ℕ → Number → Type 0
+ReadsNumber bs p t = (t.digits.bytes.now ≡ bs) × (t.digits.place ≡ p) × Spells bs t.value
 
 -- The three tokens are those of the fields of a job line, which the bytes spell and which stand at p.
-abbrev pub ReadsFields : List ℕ → ℕ → PlacedToken → PlacedToken → PlacedToken → Type 0
+abbrev pub ReadsFields : List ℕ → ℕ → Number → Number → WordToken → Type 0
 ReadsFields bs p t s n =
-    Formed (job (value_of t.token) (value_of s.token) (bytes_of n.token))
-    × (bs ≡ fields (value_of t.token) (value_of s.token) (bytes_of n.token))
-    × NumberAt p t × NumberAt (behind t) s × WordAt (behind s) n
-
--- Which keyword and space the bytes begin with, and what follows them.
-abbrev pub Begins : List ℕ → Head → Type 0
-Begins bs (Job rest) = bs ≡ codes "job " ++ rest.now
-Begins bs (Lost rest) = bs ≡ codes "lost " ++ rest.now
-Begins bs Neither = ((rest : List ℕ) → bs ≢ codes "job " ++ rest) × ((rest : List ℕ) → bs ≢ codes "lost " ++ rest)
+    Formed (job t.value s.value n.bytes.now)
+    × (bs ≡ fields t.value s.value n.bytes.now)
+    × NumberAt p t × NumberAt (behind t.digits) s × (n.place ≡ behind s.digits)
 
 -- The tokens are those of the line that the bytes spell and that stands at p.
 abbrev pub ReadsTokens : List ℕ → ℕ → LineTokens → Type 0
@@ -40,7 +33,7 @@ ReadsTokens bs p ts = Formed (line_of ts) × (bs ≡ spelled (line_of ts)) × To
 
 -- What is seen with one line more.
 pub record SeenMore (seen : Seen) (l : Line) (more : Seen) : Type 0 where
-  pub jobs_are : more.jobs ≡ seen.jobs + cond (is_job l) 1 0
-  pub lines_are : more.lines ≡ seen.lines + 1
+  pub jobs_are : more.counts.jobs ≡ seen.counts.jobs + cond (is_job l) 1 0
+  pub lines_are : more.counts.lines ≡ seen.counts.lines + 1
   pub earliest_is : more.earliest ≡ opens l
-  pub few : more.jobs ≤ 1024
+  pub few : more.counts.jobs ≤ 1024

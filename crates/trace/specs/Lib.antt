@@ -3,3 +3,4 @@ pub mod Rules
 pub mod Tokens
 pub mod Inner
 pub mod Answers
+pub mod Walk

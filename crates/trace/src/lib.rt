@@ -2,7 +2,9 @@
 #![tactic(auto)]
 
 pub mod line;
+pub mod lines;
 pub mod refused;
+mod span;
 #[cfg(test)]
 mod tests;
 pub mod token;

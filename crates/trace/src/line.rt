@@ -1,13 +1,14 @@
 // Lines: the tokens of a line, and the call that reads the line at a place.
-ghost use Rattle.std.specs.Prelude.{◌≡◌, ℕ, ◌+◌, ◌^◌, ◌<◌, List, length, MatchOption, MatchResult, ◌≢◌};
-ghost use Rattle.trace.specs.Lines.{Lacks, Line, job, Formed, fields, spelled, Stands, OneLine, ByDigits};
+ghost use Rattle.std.specs.Prelude.{◌≡◌, ℕ, List, Some, None, MatchOption, MatchResult, ◌≢◌};
+ghost use Rattle.trace.specs.Lines.{Line, job, Formed, fields, spelled, Stands, OneLine, ByDigits};
 ghost use Rattle.trace.specs.Rules.{tick as line_tick, is_job, fault};
 ghost use Rattle.trace.specs.Tokens.{line_of};
-ghost use Rattle.trace.specs.Inner.{ReadsFields, Begins, ReadsTokens};
+ghost use Rattle.trace.specs.Inner.{ReadsFields, ReadsTokens};
 ghost use Rattle.trace.specs.Answers.{reported, LineFound, LineRead, LineRefused, LineSettled, LineByLine};
 
 use crate::refused::TraceRefusal;
-use crate::token::{PlacedToken, Token, cut, number_token, word_token};
+use crate::span::Span;
+use crate::token::{Number, Word};
 use refusal::Refusal;
 
 // The tokens of a line, each with its place.
@@ -15,15 +16,15 @@ use refusal::Refusal;
 pub enum LineTokens<'a> {
     // `job TICK SIZE NAME`
     Job {
-        keyword: PlacedToken<'a>,
-        tick: PlacedToken<'a>,
-        size: PlacedToken<'a>,
-        name: PlacedToken<'a>,
+        keyword: Word<'a>,
+        tick: Number<'a>,
+        size: Number<'a>,
+        name: Word<'a>,
     },
     // `lost TICK`
     Lost {
-        keyword: PlacedToken<'a>,
-        tick: PlacedToken<'a>,
+        keyword: Word<'a>,
+        tick: Number<'a>,
     },
 }
 
@@ -45,83 +46,41 @@ impl LineTokens<'_> {
         matches!(self, LineTokens::Job { .. })
     }
 
-    // Why the line is refused for what it says: its size first, then its name.
-    fn fault(&self) -> Option<Refusal>
-        ensures { result ≡ fault (line_of self.now) }
+    // Whether the line may say what it says, or why it is refused: for its size first, then for its name.
+    fn judge(&self) -> Result<(), Refusal>
+        ensures { MatchResult result (λ _. fault (line_of self.now) ≡ None) (λ cause. fault (line_of self.now) ≡ Some cause) }
     {
         let LineTokens::Job { size, name, .. } = self else {
-            return None;
+            return Ok(());
         };
         if !job::is_size(size.value()) {
-            return Some(Refusal::Size);
+            return Err(Refusal::Size);
         }
         if !job::name::is_name(name.bytes()) {
-            return Some(Refusal::Name);
+            return Err(Refusal::Name);
         }
-        None
+        Ok(())
     }
 }
 
-// The tick, the size and the name of a job line, from the bytes behind its keyword and space.
-fn job_fields<'a>(
-    bytes: &'a [u8],
-    place: usize,
-) -> Option<(PlacedToken<'a>, PlacedToken<'a>, PlacedToken<'a>)>
-    requires fits { place + length bytes.now < 2 ^ 64 }
-    requires one { Lacks 10 bytes.now }
-    ensures { MatchOption result ((t s : ℕ) (n : List ℕ) → Formed (job t s n) → bytes.now ≢ fields t s n) (λ x. ReadsFields bytes.now place x.0 x.1 x.2) }
+// The tick, the size and the name of a job line, from what lies behind its keyword and space.
+fn job_fields<'a>(rest: Span<'a>) -> Option<(Number<'a>, Number<'a>, Word<'a>)>
+    ensures { MatchOption result ((t s : ℕ) (n : List ℕ) → Formed (job t s n) → rest.entry.bytes.now ≢ fields t s n) (λ x. ReadsFields rest.entry.bytes.now rest.entry.place x.0 x.1 x.2) }
 {
-    let Some((first, more)) = cut(bytes, b' ') else {
-        return None;
-    };
-    let Some(tick) = number_token(first, place) else {
-        return None;
-    };
-    let Some((second, last)) = cut(more, b' ') else {
-        return None;
-    };
-    let Some(size) = number_token(second, place + first.len() + 1) else {
-        return None;
-    };
-    let Some(name) = word_token(last, place + first.len() + 1 + second.len() + 1) else {
-        return None;
-    };
-    Some((tick, size, name))
+    let (tick, rest) = rest.cut(b' ')?;
+    let (size, name) = rest.cut(b' ')?;
+    Some((tick.number()?, size.number()?, name.word()?))
 }
 
-// How a line begins: with a keyword and a space, and then the bytes of its fields.
-#[derive(Clone, Copy)]
-enum Head<'a> {
-    Job(&'a [u8]),
-    Lost(&'a [u8]),
-    Neither,
-}
-
-fn head_of(line: &[u8]) -> Head<'_>
-    ensures { Begins line.now result }
+// The tokens of a line, which is given without its LF.
+fn tokens<'a>(line: Span<'a>) -> Option<LineTokens<'a>>
+    ensures { MatchOption result ((l : Line) → Formed l → line.entry.bytes.now ≢ spelled l) (λ ts. ReadsTokens line.entry.bytes.now line.entry.place ts) }
 {
-    match line {
-        [b'j', b'o', b'b', b' ', rest @ ..] => Head::Job(rest),
-        [b'l', b'o', b's', b't', b' ', rest @ ..] => Head::Lost(rest),
-        _ => Head::Neither,
-    }
-}
-
-// The tokens of a line, given without its LF, whose first byte has the place `place`.
-fn tokens<'a>(line: &'a [u8], place: usize) -> Option<LineTokens<'a>>
-    requires fits { place + length line.now < 2 ^ 64 }
-    requires one { Lacks 10 line.now }
-    ensures { MatchOption result ((l : Line) → Formed l → line.now ≢ spelled l) (λ ts. ReadsTokens line.now place ts) }
-{
-    match head_of(line) {
-        Head::Job(rest) => {
-            let Some((tick, size, name)) = job_fields(rest, place + 4) else {
-                return None;
-            };
-            let keyword = PlacedToken {
-                token: Token::Word(&line[0..3]),
-                place,
-            };
+    let (front, rest) = line.cut(b' ')?;
+    let keyword = front.token();
+    match front.bytes {
+        b"job" => {
+            let (tick, size, name) = job_fields(rest)?;
             Some(LineTokens::Job {
                 keyword,
                 tick,
@@ -129,17 +88,11 @@ fn tokens<'a>(line: &'a [u8], place: usize) -> Option<LineTokens<'a>>
                 name,
             })
         }
-        Head::Lost(rest) => {
-            let Some(tick) = number_token(rest, place + 5) else {
-                return None;
-            };
-            let keyword = PlacedToken {
-                token: Token::Word(&line[0..4]),
-                place,
-            };
+        b"lost" => {
+            let tick = rest.number()?;
             Some(LineTokens::Lost { keyword, tick })
         }
-        Head::Neither => None,
+        _ => None,
     }
 }
 
@@ -147,32 +100,21 @@ fn tokens<'a>(line: &'a [u8], place: usize) -> Option<LineTokens<'a>>
 fn line_found<'a>(trace: &'a [u8], place: usize) -> Option<(LineTokens<'a>, usize)>
     ensures { MatchOption result ((l : Line) → Stands trace.now place l → ⊥) (λ x. LineFound trace.now place x.0 x.1) }
 {
-    if place >= trace.len() {
-        return None;
-    }
-    let Some((line, _)) = cut(&trace[place..], b'\n') else {
-        return None;
-    };
-    let Some(found) = tokens(line, place) else {
-        return None;
-    };
-    Some((found, place + line.len() + 1))
+    let bytes = trace.get(place..)?;
+    let (line, rest) = Span { bytes, place }.cut(b'\n')?;
+    Some((tokens(line)?, rest.place))
 }
 
 // The line that stands at a place, unless it is refused for what it says.
 fn read_line<'a>(trace: &'a [u8], place: usize) -> Result<(LineTokens<'a>, usize), TraceRefusal>
     ensures { MatchResult result (λ x. LineRead trace.now place x.0 x.1) (λ e. LineRefused trace.now place (reported e)) }
 {
-    let Some((tokens, next)) = line_found(trace, place) else {
-        return Err(TraceRefusal {
-            cause: Refusal::LineForm,
-            place,
-        });
-    };
-    if let Some(cause) = tokens.fault() {
-        return Err(TraceRefusal { cause, place });
-    }
-    Ok((tokens, next))
+    let (line, next) = line_found(trace, place).ok_or(TraceRefusal {
+        cause: Refusal::LineForm,
+        place,
+    })?;
+    line.judge().map_err(|cause| TraceRefusal { cause, place })?;
+    Ok((line, next))
 }
 
 // Reads the line from the byte at `place` to the next LF: its tokens, and the place of the next line.

@@ -1,53 +1,59 @@
 // Examples of lines and traces, and of the refusals with their places.
 use crate::line::{LineTokens, line_at};
+use crate::lines::Lines;
+use crate::refused::TraceRefusal;
 use crate::whole::whole_trace;
 use std::test::Fail;
 
-// The number and the place with which a trace is refused, 0 and the number of its lines if it is not.
-fn verdict(trace: &[u8]) -> (u8, usize) {
-    match whole_trace(trace) {
-        Ok(counts) => (0, counts.lines),
-        Err(refused) => (refused.cause.number(), refused.place),
-    }
+// The number of the cause, and the place.
+fn number_and_place(refused: TraceRefusal) -> (u8, usize) {
+    (refused.cause.number(), refused.place)
+}
+
+// How many lines a trace has, or the number and the place with which it is refused.
+fn verdict(trace: &[u8]) -> Result<usize, (u8, usize)> {
+    whole_trace(trace)
+        .map(|counts| counts.lines)
+        .map_err(number_and_place)
 }
 
 #[test]
 fn whole_traces(rt: HostRuntime) {
-    let cases: [(&[u8], (u8, usize)); 28] = [
-        (b"", (0, 0)),
+    let cases: [(&[u8], Result<usize, (u8, usize)>); 28] = [
+        (b"", Ok(0)),
         (
             b"job 0 1 a\nlost 0\nlost 1\njob 999999 10000 a-z-09-z\n",
-            (0, 4),
+            Ok(4),
         ),
         // neither form, or no LF
-        (b"\n", (14, 0)),
-        (b"job 01 1 a\n", (14, 0)),
-        (b"job 1000000 1 a\n", (14, 0)),
-        (b"job 0  1 a\n", (14, 0)),
-        (b"job 0 1 \n", (14, 0)),
-        (b"job 0 1 a b\n", (14, 0)),
-        (b"job\t0 1 a\n", (14, 0)),
-        (b"lost 0\r\n", (14, 0)),
-        (b"lost -1\n", (14, 0)),
-        (b"\xeflost 0\n", (14, 0)),
-        (b"lost 0", (14, 0)),
-        (b"lost 0\nlost 1", (14, 7)),
+        (b"\n", Err((14, 0))),
+        (b"job 01 1 a\n", Err((14, 0))),
+        (b"job 1000000 1 a\n", Err((14, 0))),
+        (b"job 0  1 a\n", Err((14, 0))),
+        (b"job 0 1 \n", Err((14, 0))),
+        (b"job 0 1 a b\n", Err((14, 0))),
+        (b"job\t0 1 a\n", Err((14, 0))),
+        (b"lost 0\r\n", Err((14, 0))),
+        (b"lost -1\n", Err((14, 0))),
+        (b"\xeflost 0\n", Err((14, 0))),
+        (b"lost 0", Err((14, 0))),
+        (b"lost 0\nlost 1", Err((14, 7))),
         // what a line says: its size, then its name
-        (b"job 0 0 a\n", (1, 0)),
-        (b"job 0 10001 a\n", (1, 0)),
-        (b"job 0 0 Moon\n", (1, 0)),
-        (b"job 0 1 Moon\n", (2, 0)),
-        (b"job 0 1 abcdefghi\n", (2, 0)),
-        (b"job 0 1 a\r\n", (2, 0)),
-        (b"job 0 1 a\0\n", (2, 0)),
-        (b"job 0 1 \xff\n", (2, 0)),
+        (b"job 0 0 a\n", Err((1, 0))),
+        (b"job 0 10001 a\n", Err((1, 0))),
+        (b"job 0 0 Moon\n", Err((1, 0))),
+        (b"job 0 1 Moon\n", Err((2, 0))),
+        (b"job 0 1 abcdefghi\n", Err((2, 0))),
+        (b"job 0 1 a\r\n", Err((2, 0))),
+        (b"job 0 1 a\0\n", Err((2, 0))),
+        (b"job 0 1 \xff\n", Err((2, 0))),
         // the line before
-        (b"lost 3\nlost 3\n", (15, 7)),
-        (b"lost 3\njob 3 1 a\n", (15, 7)),
-        (b"job 3 1 a\njob 2 1 a\n", (15, 10)),
-        (b"job 3 1 a\njob 2 1 A\n", (2, 10)),
-        (b"job 3 1 a\njob 2 0 a\n", (1, 10)),
-        (b"job 3 1 a\njob 3 1 a\nlost 3\n", (0, 3)),
+        (b"lost 3\nlost 3\n", Err((15, 7))),
+        (b"lost 3\njob 3 1 a\n", Err((15, 7))),
+        (b"job 3 1 a\njob 2 1 a\n", Err((15, 10))),
+        (b"job 3 1 a\njob 2 1 A\n", Err((2, 10))),
+        (b"job 3 1 a\njob 2 0 a\n", Err((1, 10))),
+        (b"job 3 1 a\njob 3 1 a\nlost 3\n", Ok(3)),
     ];
     for (trace, expected) in cases {
         assert_eq!(rt; verdict(trace), expected);
@@ -62,39 +68,38 @@ fn limits(rt: HostRuntime) -> Result<(), Fail> {
         writeln!(text, "lost {tick}")?;
     }
     assert_eq!(rt; text.len(), 65_536);
-    assert_eq!(rt; verdict(text.as_bytes()), (0, 5462));
+    assert_eq!(rt; verdict(text.as_bytes()), Ok(5462));
     text.push('\n')?;
-    assert_eq!(rt; verdict(text.as_bytes()), (13, 0));
+    assert_eq!(rt; verdict(text.as_bytes()), Err((13, 0)));
     let mut jobs = Vec::new(rt.alloc());
     for _ in 0..1024 {
         jobs.extend_from_slice(b"job 0 1 a\n")?;
     }
-    assert_eq!(rt; verdict(&jobs), (0, 1024));
+    assert_eq!(rt; verdict(&jobs), Ok(1024));
     jobs.extend_from_slice(b"job 0 1 a\n")?;
-    assert_eq!(rt; verdict(&jobs), (4, 10_240));
+    assert_eq!(rt; verdict(&jobs), Err((4, 10_240)));
     Ok(())
 }
 
-// The cause's number and the place, or 0 and the next place, of the line at a place.
-fn at(trace: &[u8], place: usize) -> (u8, usize) {
-    match line_at(trace, place) {
-        Ok((_, next)) => (0, next),
-        Err(refused) => (refused.cause.number(), refused.place),
-    }
+// The place behind the line at a place, or the number and the place with which that line is refused.
+fn at(trace: &[u8], place: usize) -> Result<usize, (u8, usize)> {
+    line_at(trace, place)
+        .map(|(_, next)| next)
+        .map_err(number_and_place)
 }
 
 #[test]
 fn lines_at_places(rt: HostRuntime) -> Result<(), Fail> {
     let trace = b"job 0 42 moon\nlost 1\nxlost 7\njob 9 0 a\n";
     for (place, expected) in [
-        (0, (0, 14)),
-        (14, (0, 21)),
-        (21, (14, 21)),
-        (22, (0, 29)),
-        (29, (1, 29)),
-        (4, (14, 4)),
-        (39, (14, 39)),
-        (1000, (14, 1000)),
+        (0, Ok(14)),
+        (14, Ok(21)),
+        (21, Err((14, 21))),
+        (22, Ok(29)),
+        (29, Err((1, 29))),
+        (4, Err((14, 4))),
+        (39, Err((14, 39))),
+        (1000, Err((14, 1000))),
     ] {
         assert_eq!(rt; at(trace, place), expected);
     }
@@ -113,11 +118,28 @@ fn lines_at_places(rt: HostRuntime) -> Result<(), Fail> {
         return Err(Fail::new("no job"));
     };
     assert_eq!(rt;
-        (keyword.place, tick.place, size.place, name.place),
+        (
+            keyword.place,
+            tick.digits.place,
+            size.digits.place,
+            name.place
+        ),
         (0, 4, 6, 9)
     );
     assert_eq!(rt; (tick.value(), size.value()), (0, 42));
     assert_eq!(rt; keyword.bytes(), b"job".as_slice());
     assert_eq!(rt; name.bytes(), b"moon".as_slice());
+    Ok(())
+}
+
+// The lines of the same trace up to the first that is refused, each by its place.
+#[test]
+fn lines_in_order(rt: HostRuntime) -> Result<(), Fail> {
+    let trace = b"job 0 42 moon\nlost 1\nxlost 7\njob 9 0 a\n";
+    let mut found = Vec::new(rt.alloc());
+    for line in Lines::new(trace) {
+        found.push(line.map(|(_, place)| place).map_err(number_and_place))?;
+    }
+    assert_eq!(rt; found.as_slice(), [Ok(0), Ok(14), Err((14, 21))].as_slice());
     Ok(())
 }

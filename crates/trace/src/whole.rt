@@ -6,7 +6,8 @@ ghost use Rattle.trace.specs.Tokens.{line_of};
 ghost use Rattle.trace.specs.Inner.{SeenMore};
 ghost use Rattle.trace.specs.Answers.{reported, LinesRead, LinesRefused, TraceRead, TraceRefused, TraceSettled};
 
-use crate::line::{LineTokens, line_at};
+use crate::line::LineTokens;
+use crate::lines::Lines;
 use crate::refused::TraceRefusal;
 use job::MAX_JOBS;
 use refusal::Refusal;
@@ -15,74 +16,69 @@ use refusal::Refusal;
 pub const MAX_TRACE: usize = 65_536;
 
 // How many jobs and how many lines a trace has.
-#[derive(Clone, Copy)]
+#[derive(Clone, Copy, PartialEq, Eq, Debug, Default)]
 pub struct Counts {
     pub jobs: usize,
     pub lines: usize,
 }
 
 // What the lines so far come to: their counts, and the first tick that the next line may have.
-#[derive(Clone, Copy)]
+#[derive(Clone, Copy, Default)]
 struct Seen {
-    jobs: usize,
-    lines: usize,
+    counts: Counts,
     earliest: u32,
 }
 
-// What is seen with one line more, or why that line is refused after those seen: its tick first,
-// then its being one job too many. After a lost line the next tick is the first that may follow.
-fn one_more(seen: Seen, line: &LineTokens) -> Result<Seen, Refusal>
-    requires few { seen.jobs ≤ 1024 }
-    requires lines { seen.lines + 1 < 2 ^ 64 }
-    requires opens { opens (line_of line.now) < 2 ^ 32 }
-    ensures { MatchResult result
-        (λ more. (misplaced seen.earliest seen.jobs (line_of line.now) ≡ None) × SeenMore seen (line_of line.now) more)
-        (λ cause. misplaced seen.earliest seen.jobs (line_of line.now) ≡ Some cause) }
-{
-    let tick = line.tick();
-    if tick < seen.earliest {
-        return Err(Refusal::TickOrder);
+impl Seen {
+    // What is seen with one line more, or why that line is refused after those seen: its tick first,
+    // then its being one job too many. After a lost line the next tick is the first that may follow.
+    fn with(self, line: &LineTokens) -> Result<Self, Refusal>
+        requires few { self.counts.jobs ≤ 1024 }
+        requires lines { self.counts.lines + 1 < 2 ^ 64 }
+        requires opens { opens (line_of line.now) < 2 ^ 32 }
+        ensures { MatchResult result
+            (λ more. (misplaced self.earliest self.counts.jobs (line_of line.now) ≡ None) × SeenMore self (line_of line.now) more)
+            (λ cause. misplaced self.earliest self.counts.jobs (line_of line.now) ≡ Some cause) }
+    {
+        let tick = line.tick();
+        if tick < self.earliest {
+            return Err(Refusal::TickOrder);
+        }
+        let Counts { jobs, lines } = self.counts;
+        if !line.is_job() {
+            return Ok(Seen {
+                counts: Counts {
+                    jobs,
+                    lines: lines + 1,
+                },
+                earliest: tick + 1,
+            });
+        }
+        if jobs >= MAX_JOBS {
+            return Err(Refusal::BookFull);
+        }
+        Ok(Seen {
+            counts: Counts {
+                jobs: jobs + 1,
+                lines: lines + 1,
+            },
+            earliest: tick,
+        })
     }
-    let lines = seen.lines + 1;
-    if !line.is_job() {
-        return Ok(Seen {
-            jobs: seen.jobs,
-            lines,
-            earliest: tick + 1,
-        });
-    }
-    if seen.jobs >= MAX_JOBS {
-        return Err(Refusal::BookFull);
-    }
-    Ok(Seen {
-        jobs: seen.jobs + 1,
-        lines,
-        earliest: tick,
-    })
 }
 
-// Reads the lines from the byte at `start` to the end of the trace.
-fn lines_from(trace: &[u8], start: usize) -> Result<Counts, TraceRefusal>
-    ensures { MatchResult result (λ counts. LinesRead trace.now start counts) (λ e. LinesRefused trace.now start (reported e)) }
+// Reads all lines of a trace.
+fn read_lines(trace: &[u8]) -> Result<Counts, TraceRefusal>
+    ensures { MatchResult result (λ counts. LinesRead trace.now 0 counts) (λ e. LinesRefused trace.now 0 (reported e)) }
 {
-    let mut seen = Seen {
-        jobs: 0,
-        lines: 0,
-        earliest: 0,
-    };
-    let mut place = start;
-    while place < trace.len() {
-        let (line, next) = line_at(trace, place)?;
-        match one_more(seen, &line) {
-            Ok(more) => seen = more,
-            Err(cause) => return Err(TraceRefusal { cause, place }),
-        }
-        place = next;
+    let mut seen = Seen::default();
+    for line in Lines::new(trace) {
+        let (line, place) = line?;
+        seen = seen
+            .with(&line)
+            .map_err(|cause| TraceRefusal { cause, place })?;
     }
-    Ok(Counts {
-        jobs: seen.jobs,
-        lines: seen.lines,
-    })
+    Ok(seen.counts)
 }
 
 // Whether there are more bytes than a trace may have.
@@ -107,5 +103,5 @@ pub fn whole_trace(trace: &[u8]) -> Result<Counts, TraceRefusal>
             place: 0,
         });
     }
-    lines_from(trace, 0)
+    read_lines(trace)
 }

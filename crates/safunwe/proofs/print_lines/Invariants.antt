@@ -1,5 +1,5 @@
-use Rattle.std.proofs.Common.{◌-◌, length}
+use Rattle.trace.specs.Walk.{Ahead}
 use Rattle.safunwe.proofs.print_lines.Given as goal
 
-abbrev pub decreases-loop-place : goal.decreases-loop-place
-decreases-loop-place g l = length l.trace - l.place
+abbrev pub invariant-loop-line : goal.invariant-loop-line
+invariant-loop-line g l = Ahead l.line-iterator

@@ -1,17 +1,20 @@
-use Rattle.std.proofs.Common.{refl}
+use Rattle.std.proofs.Common.{◌≤◌, length, arith}
 use Rattle.trace.proofs.Reading.{past_end, no_lf, up_to_lf, found}
 use Rattle.trace.proofs.line.line_found.Goals as goal
 
-pub returns-then-place-trace : goal.returns-then-place-trace
-returns-then-place-trace c = past_end c.args.trace.now c.args.place c.if-place-trace.true
+pub returns-in_err-bytes : goal.returns-in_err-bytes
+returns-in_err-bytes c =
+    let end : length c.args.trace.now ≤ c.args.place = omega (arith, c.in_err-bytes.ensures.lookup.0) in
+    rw c.from_residual.ensures (past_end c.args.trace.now c.args.place end)
 
-pub returns-in_default : goal.returns-in_default
-returns-in_default c = no_lf c.args.trace.now c.args.place c.in_default.ensures.cuts
+pub returns-in_err-line : goal.returns-in_err-line
+returns-in_err-line c = rw c.from_residual-in_err-line.ensures (no_lf c.args.trace.now c.args.place _ c.in_ok-bytes.ensures.lookup.0.2 c.in_err-line.ensures.cuts)
 
-pub returns-in_default-tokens : goal.returns-in_default-tokens
-returns-in_default-tokens c = λ l h.
-    let p = c.in-Some.ensures.cuts in
-    c.in_default-tokens.ensures l h.0 (up_to_lf c.args.trace.now c.args.place _ _ p.0 p.1 l h)
+pub returns-in_err-tokens : goal.returns-in_err-tokens
+returns-in_err-tokens c = rw c.from_residual-in_err-tokens.ensures (λ l h.
+    c.in_err-tokens.ensures l h.0 (up_to_lf c.args.trace.now c.args.place _ _ _ c.in_ok-bytes.ensures.lookup.0.2 c.in_ok-line.ensures.cuts l h))
 
 pub returns : goal.returns
-returns c = found c.args.trace.now c.args.place _ _ _ _ c.in-Some.ensures.cuts.1 c.in-Some-tokens.ensures refl
+returns c =
+    let a = c.in_ok-line.ensures in
+    found c.args.trace.now c.args.place _ _ _ c.in_ok-tokens.field-0 _ _ c.in_ok-bytes.ensures.lookup.0.2 a.cuts.1 c.in_ok-tokens.ensures a.places.0 a.places.1

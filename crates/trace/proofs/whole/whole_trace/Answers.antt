@@ -11,4 +11,4 @@ returns-then-is_too_long c = record { reads = inl (ltb-true _ _ (sym c.if-is_too
 pub returns : goal.returns
 returns c =
     let short = ltb-false _ _ (sym c.if-is_too_long.ensures) in
-    record { reads = MatchResult-weaker c.lines_from.result c.lines_from.ensures (λ counts h. (short, h)) (λ e h. inr (short, h)); unique = one_list; settled = trace_settled }
+    record { reads = MatchResult-weaker c.read_lines.result c.read_lines.ensures (λ counts h. (short, h)) (λ e h. inr (short, h)); unique = one_list; settled = trace_settled }
