@@ -4,7 +4,8 @@ ghost use Rattle.contest.specs.Contested.{Takes};
 use crate::calls::{Call, Hand, Round};
 use crate::rounds::{Pair, contest};
 use crate::turn::Leases;
-use discipline::{Discipline, Fcfs};
+use discipline::Discipline;
+use queues::Fcfs;
 use run::{Lease, Run};
 use std::test::Fail;
 

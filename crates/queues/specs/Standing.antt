@@ -4,8 +4,7 @@ use Rattle.std.proofs.Common.{sym, ap, subst, ◌∙◌, arith}
 use Rattle.std.proofs.lemmas.Bool.{eq-eqb, ne_eqb}
 use Rattle.std.proofs.lemmas.Bool.Decides.{nat_tests}
 use Rattle.std.proofs.lemmas.List.{append-nil, drop_all}
-use Rattle.discipline.specs.Rows.{first_of, without, times}
-use Rattle.queues.specs.Rows.{last_of, gapless}
+use Rattle.queues.specs.Rows.{first_of, last_of, gapless, without, times}
 
 pub first_is : (xs : List ℕ) → 0 < length xs → Some (slice_index xs 0) ≡ first_of xs
 first_is [] l = absurd (omega arith)

@@ -3,7 +3,8 @@ ghost use Rattle.contest.specs.Contested.{Takes};
 
 use crate::print::summary;
 use contest::{Answer, Call, Hand, Leases, Pair, Round, contest};
-use discipline::{Discipline, Fcfs};
+use discipline::Discipline;
+use queues::Fcfs;
 use run::{Lease, Run};
 use std::alloc::{AllocError, Global};
 use std::io;

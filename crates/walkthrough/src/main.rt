@@ -6,8 +6,8 @@ mod print;
 mod ticks;
 
 use answer::{Answer, Figures};
-use discipline::Fcfs;
 use print::{enter, pass, sojourn, summary, tick};
+use queues::Fcfs;
 use run::Run;
 use std::io;
 use ticks::{lose_interrupted, serve, serve_interrupted, stray};

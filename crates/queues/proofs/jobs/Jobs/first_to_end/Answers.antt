@@ -1,6 +1,5 @@
 use Rattle.std.proofs.Common.{ℕ, List, length, ap, ◌∙◌}
-use Rattle.discipline.specs.Rows.{times}
-use Rattle.queues.specs.Rows.{row_of}
+use Rattle.queues.specs.Rows.{row_of, times}
 use Rattle.queues.proofs.Turning.{length-turned, times-turned}
 use Rattle.queues.proofs.jobs.Jobs.first_to_end.Goals as goal
 
