@@ -1,4 +1,4 @@
-use Rattle.queues.specs.contracts.round_robin_calls.RoundRobinDiscipline.TheImpl.{ghosts}
+use Rattle.queues.specs.Disciplines.{round-ghosts as ghosts}
 use Rattle.run.specs.States.{Tied}
 use Rattle.run.specs.Runs.{meaning}
 use Rattle.tour.proofs.taking_turns.Given as goal
