@@ -2,7 +2,7 @@
 use Rattle.std.proofs.Common.{◌≡◌, ℕ, ◌+◌, ◌-◌, ◌<◌, ◌≤◌, cond, eqb, ltb, List, [], ◌∷◌, ◌++◌, length, get_or, set, replicate, sym, refl, ap, ◌∙◌, subst, ⊎_elim, arith}
 use Rattle.std.proofs.lemmas.Bool.{cases_eq, eq-eqb, ne_eqb}
 use Rattle.std.proofs.lemmas.Bool.Decides.{nat_tests}
-use Rattle.std.proofs.lemmas.List.{length-replicate, get_or-set_same, get_or-set_other, length-set}
+use Rattle.std.proofs.lemmas.List.{get_or-set_same, get_or-set_other, length-set}
 use Rattle.std.proofs.lemmas.List.Sums.{sum_by-set, count_by-le-length}
 use Rattle.discipline.specs.Meaning.{count_present}
 use Rattle.discipline.proofs.Admitted.{zero_at}
@@ -10,14 +10,8 @@ use Rattle.queues.specs.Rows.{without, times, Once}
 
 -- ---- nobody
 module _ (left : List ℕ) (row : List ℕ) (l0 : left ≡ replicate 1024 0) (r0 : row ≡ []) where
-  pub none_long : length left ≡ 1024
-  none_long = ap length l0 ∙ length-replicate {A = ℕ} 1024 0
-
   pub none_fits : (k : ℕ) → get_or left k 0 ≤ 10000
   none_fits k = let z : get_or left k 0 ≡ 0 = ap (λ (xs : List ℕ). get_or xs k 0) l0 ∙ zero_at k in omega arith
-
-  pub none_many : length row ≡ count_present left
-  none_many = ap length r0 ∙ sym (ap count_present l0)
 
   pub none_once : Once row left
   none_once k = ap (λ (xs : List ℕ). times k xs) r0 ∙ sym (ap (λ n. cond (ltb 0 n) 1 0) (ap (λ (xs : List ℕ). get_or xs k 0) l0 ∙ zero_at k))

@@ -14,7 +14,7 @@ use Rattle.queues.specs.contracts.lcfs.LastComeService.TheImpl.{ghosts as last_c
 use Rattle.queues.specs.contracts.round_robin.Turns.{the_row as turns_row}
 use Rattle.queues.specs.contracts.round_robin.TurnsService.TheImpl.{ghosts as turns}
 use Rattle.queues.specs.Queues.{Queue}
-use Rattle.queues.specs.Rows.{row_of, leaves}
+use Rattle.queues.specs.Rows.{leaves}
 use Rattle.queues.specs.Views.{queue_of}
 
 abbrev pub Fcfs : Type 0
@@ -49,7 +49,7 @@ round_queue = queue_of turns
 -- ---- the order of admission
 -- Under FCFS, the present jobs in the order in which they were admitted, the earliest first.
 abbrev pub order_of : Fcfs → List ℕ
-order_of d = row_of d.jobs.row
+order_of d = d.jobs.row
 
 -- A job that is admitted comes last; a finished one leaves; nobody else moves.
 abbrev pub reordered : Move → List ℕ → List ℕ

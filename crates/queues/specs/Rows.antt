@@ -1,14 +1,19 @@
 -- A row of job numbers: the ring that it is kept in, its ends, and who stands in it.
-use Rattle.std.specs.Prelude.{◌≡◌, ℕ, suc, ◌+◌, ◌-◌, cond, List, [], ◌∷◌, ◌++◌, take, drop, Some, None, Option, ◌==◌, nat_lt, slice_index}
-use Rattle.queues.specs.declared.row.Row.{Row}
+use Rattle.std.specs.Prelude.{◌≡◌, ℕ, suc, ◌+◌, ◌-◌, ◌<◌, ◌≤◌, cond, List, [], ◌∷◌, ◌++◌, length, take, drop, Some, None, Option, ◌==◌, nat_lt, slice_index}
 
 -- A list from its place f on, once round.
 abbrev pub around : ℕ → List ℕ → List ℕ
 around f xs = drop f xs ++ take f xs
 
--- The numbers of a row, from its front.
-abbrev pub row_of : Row → List ℕ
-row_of r = take r.len (around r.front r.items)
+-- The first n numbers of a ring from its place f on.
+abbrev pub in_ring : List ℕ → ℕ → ℕ → List ℕ
+in_ring xs f n = take n (around f xs)
+
+-- A ring of 1,024 places, of which n are used from the place f on.
+pub record IsRing (xs : List ℕ) (f n : ℕ) : Type 0 where
+  pub long : length xs ≡ 1024
+  pub within : f < 1024
+  pub few : n ≤ 1024
 
 -- The place in the ring of the k-th number from the place f.
 abbrev pub place_of : ℕ → ℕ → ℕ

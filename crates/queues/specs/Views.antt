@@ -2,7 +2,6 @@
 use Rattle.queues.specs.declared.row_discipline.RowDiscipline.{RowDiscipline}
 use Rattle.queues.specs.declared.service.Service.{Ghosts}
 use Rattle.queues.specs.Queues.{Queue, queue}
-use Rattle.queues.specs.Rows.{row_of}
 
 abbrev pub queue_of : {S : Type 0} → Ghosts S → RowDiscipline S → Queue
-queue_of s d = queue (s.rule d.service) (row_of d.jobs.row) (s.turn d.service)
+queue_of s d = queue (s.rule d.service) d.jobs.row (s.turn d.service)

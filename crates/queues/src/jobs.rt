@@ -2,7 +2,7 @@
 ghost use Rattle.std.specs.Prelude.{◌≡◌, ℕ, ◌-◌, ◌≤◌, [], ◌∷◌, ◌++◌, length, replicate, slice_index, slice_set};
 ghost use Rattle.refusal.specs.Answers.{if_accepted};
 ghost use Rattle.discipline.specs.Meaning.{admit_answer, worked_answer, left_answer, count_present};
-ghost use Rattle.queues.specs.Rows.{row_of, first_of, front_to_end, leaves, Once};
+ghost use Rattle.queues.specs.Rows.{first_of, front_to_end, leaves, Once};
 
 use crate::row::Row;
 use job::{MAX_JOBS, is_size};
@@ -10,19 +10,19 @@ use refusal::Refusal;
 
 // The left work of each job by its number, and the jobs that have some in a row: each once.
 #[derive(Drop)]
-pub struct Jobs {
+pub(crate) struct Jobs {
     pub(crate) left: [u32; MAX_JOBS],
     pub(crate) row: Row,
     ghost long: { length left ≡ 1024 },
     ghost fits: { (k : ℕ) → slice_index left k ≤ 10000 },
-    ghost many: { length (row_of row) ≡ count_present left },
-    ghost once: { Once (row_of row) left },
+    ghost many: { length row ≡ count_present left },
+    ghost once: { Once row left },
 }
 
 impl Jobs {
     pub(crate) fn new() -> Jobs
         ensures table { result.left ≡ replicate 1024 0 }
-        ensures order { row_of result.row ≡ [] }
+        ensures order { result.row ≡ [] }
     {
         Jobs {
             left: [0; MAX_JOBS],
@@ -34,7 +34,7 @@ impl Jobs {
     pub(crate) fn admit(&mut self, number: u32, size: u32) -> Result<(), Refusal>
         ensures answers { result ≡ admit_answer self.old.left number size }
         ensures table { self.new.left ≡ if_accepted result (slice_set self.old.left number size) self.old.left }
-        ensures order { row_of self.new.row ≡ if_accepted result (row_of self.old.row ++ number ∷ []) (row_of self.old.row) }
+        ensures order { self.new.row ≡ if_accepted result (self.old.row ++ number ∷ []) self.old.row }
     {
         let left = self.left(number)?;
         if !is_size(size) {
@@ -52,7 +52,7 @@ impl Jobs {
     pub(crate) fn worked(&mut self, number: u32) -> Result<u32, Refusal>
         ensures answers { result ≡ worked_answer self.old.left number }
         ensures table { self.new.left ≡ if_accepted result (slice_set self.old.left number (slice_index self.old.left number - 1)) self.old.left }
-        ensures order { row_of self.new.row ≡ if_accepted result (leaves number (slice_index self.old.left number - 1) (row_of self.old.row)) (row_of self.old.row) }
+        ensures order { self.new.row ≡ if_accepted result (leaves number (slice_index self.old.left number - 1) self.old.row) self.old.row }
     {
         let left = self.left(number)?.checked_sub(1).ok_or(Refusal::NotHeld)?;
         self.left[number as usize] = left;
@@ -60,6 +60,7 @@ impl Jobs {
         Ok(left)
     }
 
+    // The one test of a number that all calls share.
     pub(crate) fn left(&self, number: u32) -> Result<u32, Refusal>
         ensures { result ≡ left_answer self.now.left number }
     {
@@ -79,7 +80,7 @@ impl Jobs {
     // Sends the front of the row to its end.
     pub(crate) fn first_to_end(&mut self)
         ensures table { self.new.left ≡ self.old.left }
-        ensures order { row_of self.new.row ≡ front_to_end (row_of self.old.row) }
+        ensures order { self.new.row ≡ front_to_end self.old.row }
     {
         self.row.first_to_end();
     }

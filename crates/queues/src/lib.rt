@@ -2,7 +2,7 @@
 #![tactic(auto)]
 
 pub mod fcfs;
-pub mod jobs;
+mod jobs;
 pub mod laws;
 pub mod lcfs;
 pub mod quantum;

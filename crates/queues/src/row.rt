@@ -1,27 +1,43 @@
 // A row of at most 1,024 job numbers.
-ghost use Rattle.std.specs.Prelude.{◌≡◌, ◌<◌, ◌≤◌, length};
+ghost use Rattle.std.specs.Prelude.{◌≡◌, ℕ, ◌-◌, ◌<◌, ◌≤◌, List, [], ◌∷◌, ◌++◌, length, take, drop, ◌==◌, slice_index, slice_set};
+ghost use Rattle.std.specs.List.{position};
+ghost use Rattle.queues.specs.Rows.{in_ring, IsRing, place_of, first_of, last_of, front_to_end, gapless, without, leaves, times};
 
 use job::MAX_JOBS;
+use std::marker::Model;
 
 // The numbers stand from the place `front` on; behind the last place comes the first. It is a ring written here,
 // since no call may fail for want of memory: the library's rings take their items from an allocator.
 #[derive(Drop)]
 pub struct Row {
-    pub(crate) items: [u32; MAX_JOBS],
-    pub(crate) front: usize,
-    pub(crate) len: usize,
-    ghost long: { length items ≡ 1024 },
-    ghost within: { front < 1024 },
-    ghost few: { len ≤ 1024 },
+    items: [u32; MAX_JOBS],
+    front: usize,
+    len: usize,
+}
+
+// Clauses see the numbers, from the front.
+impl Model for Row {
+    ghost Value = { List ℕ };
+
+    ghost view = { λ r. in_ring r.items r.front r.len };
+
+    ghost invariant = { λ r. IsRing r.items r.front r.len };
+}
+
+// Where the k-th number of a ring stands, or would stand, from the place `front` on.
+fn place(front: usize, k: usize) -> usize
+    requires within { front < 1024 }
+    requires few { k ≤ 1024 }
+    ensures is { result ≡ place_of front k }
+    ensures low { result < 1024 }
+{
+    let at = front + k;
+    if at < MAX_JOBS { at } else { at - MAX_JOBS }
 }
 
 impl Row {
-    ghost use Rattle.std.specs.Prelude.{ℕ, ◌-◌, [], ◌∷◌, ◌++◌, take, drop, ◌==◌, slice_index, slice_set};
-    ghost use Rattle.std.specs.List.{position};
-    ghost use Rattle.queues.specs.Rows.{row_of, place_of, first_of, last_of, front_to_end, gapless, without, leaves, times};
-
     pub(crate) fn new() -> Row
-        ensures { row_of result ≡ [] }
+        ensures { result ≡ [] }
     {
         Row {
             items: [0; MAX_JOBS],
@@ -31,66 +47,57 @@ impl Row {
     }
 
     pub(crate) fn len(&self) -> usize
-        ensures counts { result ≡ length (row_of self.now) }
+        ensures counts { result ≡ length self.now }
         ensures few { result ≤ 1024 }
     {
         self.len
     }
 
-    // Where the k-th number from the front stands, or would stand.
-    fn place(&self, k: usize) -> usize
-        requires { k ≤ 1024 }
-        ensures is { result ≡ place_of self.now.front k }
-        ensures low { result < 1024 }
-    {
-        let at = self.front + k;
-        if at < MAX_JOBS { at } else { at - MAX_JOBS }
-    }
-
     // The k-th number from the front.
     fn number_at(&self, k: usize) -> u32
-        requires { k < length (row_of self.now) }
-        ensures { result ≡ slice_index (row_of self.now) k }
+        requires { k < length self.now }
+        ensures { result ≡ slice_index self.now k }
     {
-        self.items[self.place(k)]
+        self.items[place(self.front, k)]
     }
 
     // Puts a number in the place of the k-th from the front.
     fn put_at(&mut self, k: usize, number: u32)
-        requires { k < length (row_of self.old) }
-        ensures { row_of self.new ≡ slice_set (row_of self.old) k number }
+        requires { k < length self.old }
+        ensures { self.new ≡ slice_set self.old k number }
     {
-        let at = self.place(k);
+        let at = place(self.front, k);
         self.items[at] = number;
     }
 
     // Adds a number at the end.
     pub(crate) fn push(&mut self, number: u32)
-        requires { length (row_of self.old) < 1024 }
-        ensures { row_of self.new ≡ row_of self.old ++ number ∷ [] }
+        requires { length self.old < 1024 }
+        ensures { self.new ≡ self.old ++ number ∷ [] }
     {
-        let at = self.place(self.len);
+        let at = place(self.front, self.len);
         self.items[at] = number;
         self.len += 1;
     }
 
     // Takes the front off.
     fn drop_first(&mut self)
-        ensures { row_of self.new ≡ drop 1 (row_of self.old) }
+        ensures rest { self.new ≡ drop 1 self.old }
+        ensures room { length self.new < 1024 }
     {
-        self.front = self.place(1);
+        self.front = place(self.front, 1);
         self.len = self.len.saturating_sub(1);
     }
 
     // Takes the last off.
     fn drop_last(&mut self)
-        ensures { row_of self.new ≡ take (length (row_of self.old) - 1) (row_of self.old) }
+        ensures { self.new ≡ take (length self.old - 1) self.old }
     {
         self.len = self.len.saturating_sub(1);
     }
 
     pub(crate) fn first(&self) -> Option<u32>
-        ensures { result ≡ first_of (row_of self.now) }
+        ensures { result ≡ first_of self.now }
     {
         if self.len() == 0 {
             return None;
@@ -99,7 +106,7 @@ impl Row {
     }
 
     pub(crate) fn last(&self) -> Option<u32>
-        ensures { result ≡ last_of (row_of self.now) }
+        ensures { result ≡ last_of self.now }
     {
         let last = self.len().checked_sub(1)?;
         Some(self.number_at(last))
@@ -107,7 +114,7 @@ impl Row {
 
     // Sends the front to the end.
     pub(crate) fn first_to_end(&mut self)
-        ensures { row_of self.new ≡ front_to_end (row_of self.old) }
+        ensures { self.new ≡ front_to_end self.old }
     {
         if let Some(number) = self.first() {
             self.drop_first();
@@ -117,7 +124,7 @@ impl Row {
 
     // Where a number first stands, if it does.
     fn find(&self, number: u32) -> Option<usize>
-        ensures { result ≡ position (λ x. x == number) (row_of self.now) }
+        ensures { result ≡ position (λ x. x == number) self.now }
     {
         let (behind, ahead) = self.items.split_at(self.front);
         ahead
@@ -127,10 +134,11 @@ impl Row {
             .position(|x| *x == number)
     }
 
-    // Takes the number at a place out; those behind it move up by one.
+    // Takes the number at a place out; those behind it move up by one. Their places go round the end of the array, so
+    // they are no one part of it to rotate.
     fn close(&mut self, at: usize)
-        requires { at < length (row_of self.old) }
-        ensures { row_of self.new ≡ gapless (row_of self.old) at }
+        requires { at < length self.old }
+        ensures { self.new ≡ gapless self.old at }
     {
         let len = self.len();
         for k in at + 1..len {
@@ -143,8 +151,8 @@ impl Row {
     // Takes out a number that stands at most once, wherever it stands; the others keep their order.
     // O(1) at the front and at the end, otherwise O(n).
     fn remove(&mut self, number: u32)
-        requires { times number (row_of self.old) ≤ 1 }
-        ensures { row_of self.new ≡ without number (row_of self.old) }
+        requires { times number self.old ≤ 1 }
+        ensures { self.new ≡ without number self.old }
     {
         if self.first() == Some(number) {
             self.drop_first();
@@ -157,7 +165,7 @@ impl Row {
 
     // Takes out a number wherever it first stands, if it does. O(n).
     fn remove_within(&mut self, number: u32)
-        ensures { row_of self.new ≡ without number (row_of self.old) }
+        ensures { self.new ≡ without number self.old }
     {
         if let Some(at) = self.find(number) {
             self.close(at);
@@ -166,8 +174,8 @@ impl Row {
 
     // A job that has had a unit of work leaves if none is left. O(1) but for one in the middle that leaves.
     pub(crate) fn leave(&mut self, number: u32, left: u32)
-        requires { times number (row_of self.old) ≤ 1 }
-        ensures { row_of self.new ≡ leaves number left (row_of self.old) }
+        requires { times number self.old ≤ 1 }
+        ensures { self.new ≡ leaves number left self.old }
     {
         if left == 0 {
             self.remove(number);

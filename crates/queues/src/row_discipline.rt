@@ -14,7 +14,6 @@ pub struct RowDiscipline<S: Service> {
 impl<S: Service> RowDiscipline<S> {
     ghost use Rattle.std.specs.Prelude.{◌≡◌, [], replicate};
     ghost use Rattle.queues.specs.Queues.{queue, fronted};
-    ghost use Rattle.queues.specs.Rows.{row_of};
     ghost use Rattle.queues.specs.Views.{queue_of};
 
     // Nobody is present.
@@ -31,7 +30,7 @@ impl<S: Service> RowDiscipline<S> {
     // The front has had one more unit in its turn; where it is finished it has left the row already.
     fn end_unit(&mut self, left: u32)
         ensures table { self.new.jobs.left ≡ self.old.jobs.left }
-        ensures turns { queue_of S.Service self.new ≡ fronted (S.rule self.old.service) left (row_of self.old.jobs.row) (S.turn self.old.service) }
+        ensures turns { queue_of S.Service self.new ≡ fronted (S.rule self.old.service) left self.old.jobs.row (S.turn self.old.service) }
     {
         if self.service.front_served(left) {
             self.jobs.first_to_end();
@@ -43,7 +42,6 @@ impl<S: Service> Discipline for RowDiscipline<S> {
     ghost use Rattle.std.specs.Prelude.{◌≡◌};
     ghost use Rattle.queues.specs.Lasting.{rule_chosen};
     ghost use Rattle.queues.specs.Queues.{choice_of, moved};
-    ghost use Rattle.queues.specs.Rows.{row_of};
     ghost use Rattle.queues.specs.Views.{queue_of};
 
     ghost present = { λ d. d.jobs.left };
@@ -52,7 +50,7 @@ impl<S: Service> Discipline for RowDiscipline<S> {
 
     ghost moves = { λ m d e. queue_of S.Service e ≡ moved m (queue_of S.Service d) };
 
-    ghost sound = { λ d. record { long = d.jobs.long; fits = d.jobs.fits; chosen = rule_chosen (S.rule d.service) (row_of d.jobs.row) d.jobs.left d.jobs.once } };
+    ghost sound = { λ d. record { long = d.jobs.long; fits = d.jobs.fits; chosen = rule_chosen (S.rule d.service) d.jobs.row d.jobs.left d.jobs.once } };
 
     // Lets everybody go. Never refused. O(1,024): the whole table of left work is written over.
     fn clear(&mut self) {

@@ -1,7 +1,6 @@
 // How the jobs of a row are served.
 ghost use Rattle.std.specs.Prelude.{◌≡◌, ℕ};
 ghost use Rattle.queues.specs.Queues.{Rule, choice_by, ends_turn, turn_after};
-ghost use Rattle.queues.specs.Rows.{row_of};
 
 use crate::row::Row;
 
@@ -20,7 +19,7 @@ pub trait Service: Drop {
 
     // The job of a row to serve next, or none where it is empty.
     fn choose(&self, row: &Row) -> Option<u32>
-        ensures { result ≡ choice_by (rule self.now) (row_of row.now) };
+        ensures { result ≡ choice_by (rule self.now) row.now };
 
     // The front has had one more unit of work, and so much is left of it. Answers whether it goes to the end of the row.
     fn front_served(&mut self, left: u32) -> bool

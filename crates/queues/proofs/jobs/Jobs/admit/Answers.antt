@@ -1,7 +1,7 @@
 use Rattle.std.proofs.Common.{◌≡◌, ℕ, ◌+◌, ◌<◌, List, length, get_or, set, sym, ap, ◌∙◌, subst, arith, rules}
 use Rattle.std.proofs.lemmas.List.{length-set, length_push}
 use Rattle.job.proofs.Sizes.{size_low, size_high}
-use Rattle.queues.specs.Rows.{row_of, Once}
+use Rattle.queues.specs.Rows.{Once}
 use Rattle.queues.proofs.Admitted.{set_fits, count_more, room, once_more}
 use Rattle.queues.proofs.jobs.Jobs.admit.Goals as goal
 
@@ -19,7 +19,7 @@ invariant_of-self c =
     let d = c.args.self.now in
     let n = c.args.number in
     let v = c.args.size in
-    let row = row_of d.row in
+    let row = d.row in
     let l = d.long in
     let z : get_or d.left n 0 ≡ 0 = search rules in
     let low : n < length d.left = search rules in
