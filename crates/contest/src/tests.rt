@@ -2,7 +2,7 @@
 use crate::calls::{Call, Hand, Round};
 use crate::pair::Pair;
 use crate::rounds::contest;
-use discipline::Fcfs;
+use queues::Fcfs;
 use run::Run;
 use std::array;
 use std::test::Fail;

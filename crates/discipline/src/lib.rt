@@ -5,14 +5,6 @@ ghost use Rattle.std.specs.Prelude.{◌≡◌, ℕ, ◌-◌, List, replicate, If
 ghost use Rattle.refusal.specs.Answers.{if_accepted, KeptIfRefused};
 ghost use Rattle.discipline.specs.Meaning.{Move, cleared, admitted, worked as served, Sound, admit_answer, choose_answer, worked_answer, left_answer, count_present};
 
-pub mod fcfs;
-mod fcfs_calls;
-mod jobs;
-mod jobs_calls;
-mod row;
-mod row_calls;
-
-pub use fcfs::Fcfs;
 use refusal::Refusal;
 
 // A discipline knows which jobs are present, how much work each has left, and whom to serve next.

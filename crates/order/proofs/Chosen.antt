@@ -1,14 +1,9 @@
 -- The meanings of first come first served and last come first served are sound, and their rows keep the order of entry.
 use Rattle.std.proofs.Common.{◌≡◌, ℕ, List, ap}
-use Rattle.queues.specs.declared.fcfs.Fcfs.{Fcfs}
-use Rattle.queues.specs.declared.lcfs.Lcfs.{Lcfs}
-use Rattle.queues.specs.contracts.fcfs_calls.FcfsDiscipline.TheImpl.{ghosts as fcfs}
-use Rattle.queues.specs.contracts.lcfs_calls.LcfsDiscipline.TheImpl.{ghosts as lcfs}
+use Rattle.queues.specs.Disciplines.{Fcfs, Lcfs, fcfs-ghosts as fcfs, lcfs-ghosts as lcfs, fcfs_queue, lcfs_queue, reordered}
 use Rattle.discipline.specs.Meaning.{Move, cleared, admitted, worked, Sound}
 use Rattle.queues.specs.Queues.{Queue}
-use Rattle.queues.specs.Views.{fcfs_queue, lcfs_queue}
 use Rattle.queues.specs.Lasting.{first_chosen, last_chosen}
-use Rattle.order.proofs.Serving.{reordered}
 
 pub fcfs_sound : (x : Fcfs) → Sound (fcfs.present x) (fcfs.choice x)
 fcfs_sound x = record { long = x.jobs.long; fits = x.jobs.fits; chosen = first_chosen _ x.jobs.left x.jobs.once }

@@ -2,8 +2,7 @@
 use Rattle.std.proofs.Common.{◌≡◌, ℕ, ◌<◌, ◌≤◌, List, get_or, Some, sym, ◌∙◌, arith}
 use Rattle.discipline.specs.declared.Discipline.{Ghosts}
 use Rattle.discipline.specs.Meaning.{Move, Sound}
-use Rattle.discipline.specs.Rows.{first_of}
-use Rattle.queues.specs.Rows.{last_of}
+use Rattle.queues.specs.Rows.{first_of, last_of}
 use Rattle.run.specs.declared.run.Run.{Run}
 use Rattle.run.specs.States.{State, Tied}
 use Rattle.run.specs.Runs.{meaning, discipline_of}
@@ -19,7 +18,8 @@ use Rattle.contest.proofs.Counts.{Table}
 use Rattle.contest.proofs.Keeping.{Kept}
 use Rattle.order.specs.Laws.{line_of}
 use Rattle.order.proofs.Rising.{first-least, last_most, present_in_row}
-use Rattle.order.proofs.Serving.{reordered, kept, lined}
+use Rattle.queues.specs.Disciplines.{reordered}
+use Rattle.order.proofs.Serving.{kept, lined}
 
 -- The choice is the smallest number present.
 abbrev Smallest : State → Type 0

@@ -2,10 +2,9 @@
 use Rattle.std.proofs.Common.{◌≡◌, ℕ, ◌+◌, ◌<◌, ◌≤◌, Bool, cond, ltb, List, [], ◌∷◌, ◌++◌, length, get_or, set, Some, sym, refl, ap, subst, inl, inr, arith}
 use Rattle.std.proofs.lemmas.Bool.Decides.{nat_tests}
 use Rattle.std.proofs.lemmas.Bool.{cases_eq, eq-eqb, ne_eqb}
-use Rattle.discipline.specs.Rows.{first_of, without, times, leaves}
-use Rattle.queues.specs.Rows.{last_of}
+use Rattle.queues.specs.Rows.{first_of, without, times, last_of, leaves, Once}
 use Rattle.queues.specs.Standing.{last_stands}
-use Rattle.discipline.proofs.Admitted.{Once, times_push, times-without_same, times-without_other, once_more, once_same, once_less}
+use Rattle.queues.proofs.Admitted.{times_push, times-without_same, times-without_other, once_more, once_same, once_less}
 
 -- Each number of the row is above those before it.
 abbrev pub Rising : List ℕ → Type 0

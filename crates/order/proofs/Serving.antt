@@ -3,8 +3,9 @@ use Rattle.std.proofs.Common.{◌≡◌, ℕ, ◌-◌, List, [], ◌∷◌, ◌+
 use Rattle.job.proofs.Sizes.{size_low}
 use Rattle.discipline.specs.declared.Discipline.{Ghosts}
 use Rattle.discipline.specs.Meaning.{Move, cleared, admitted, worked, Sound}
-use Rattle.discipline.specs.Rows.{leaves}
-use Rattle.discipline.proofs.Admitted.{none_once}
+use Rattle.queues.specs.Rows.{leaves}
+use Rattle.queues.specs.Disciplines.{reordered}
+use Rattle.queues.proofs.Admitted.{none_once}
 use Rattle.run.specs.declared.run.Run.{Run}
 use Rattle.run.specs.States.{State, Tied}
 use Rattle.run.specs.Runs.{meaning, discipline_of}
@@ -20,12 +21,6 @@ use Rattle.contest.specs.Transcripts.{history, own_schedule, lease_out}
 use Rattle.contest.proofs.Counts.{Table}
 use Rattle.contest.proofs.Keeping.{Kept, step_kept, made_kept}
 use Rattle.order.proofs.Rising.{Lined, lined_enter, lined_done}
-
--- How a row moves in which a job that is admitted comes last, a finished one leaves, and nobody else moves.
-abbrev pub reordered : Move → List ℕ → List ℕ
-reordered cleared row = []
-reordered (admitted n z) row = row ++ n ∷ []
-reordered (worked n l) row = leaves n l row
 
 module _ {D : Type 0} (d : Ghosts D) (sound : (x : D) → Sound (d.present x) (d.choice x)) (m : ℕ) where
   pub reaches : {es : List Event} {r : Run D d} → Course d m es r → Reaches m es (meaning d r)

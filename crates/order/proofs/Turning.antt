@@ -2,17 +2,15 @@
 use Rattle.std.proofs.Common.{◌≡◌, ℕ, ◌+◌, ◌-◌, ◌<◌, Bool, cond, eqb, List, [], ◌∷◌, ◌++◌, length, get_or, sym, refl, ap, ◌∙◌, subst, append_assoc, arith}
 use Rattle.std.proofs.lemmas.List.{append-nil, get_or-set_same}
 use Rattle.std.proofs.lemmas.Bool.{eq-eqb, ne_eqb}
-use Rattle.queues.specs.declared.round_robin.RoundRobin.{RoundRobin}
-use Rattle.queues.specs.contracts.round_robin_calls.RoundRobinDiscipline.TheImpl.{ghosts}
+use Rattle.queues.specs.Disciplines.{RoundRobin, round-ghosts as ghosts, round_queue}
 use Rattle.discipline.specs.Meaning.{admitted, worked}
-use Rattle.discipline.specs.Rows.{leaves}
+use Rattle.queues.specs.Rows.{leaves}
 use Rattle.queues.specs.Queues.{Queue, queue, round_robin, turned, rounds, moved}
 use Rattle.run.specs.declared.run.Run.{Run}
 use Rattle.run.specs.States.{State}
 use Rattle.run.specs.Runs.{meaning}
 use Rattle.run.proofs.Ended.{present_below}
 use Rattle.run.proofs.Accepting.{done_ok}
-use Rattle.queues.specs.Views.{round_queue}
 use Rattle.order.specs.Turns as T
 use Rattle.order.specs.Turns.{queue_of, UnitOf, Served, FullTurnGoesBehind}
 use Rattle.order.proofs.Rising.{in_row}

@@ -1,9 +1,6 @@
 -- In which order the disciplines that keep a row serve: laws over whole runs, whatever calls were made of them.
 use Rattle.std.specs.Prelude.{◌≡◌, ℕ, ◌<◌, ◌≤◌, List, Some, slice_index, slice_index_or}
-use Rattle.queues.specs.declared.fcfs.Fcfs.{Fcfs}
-use Rattle.queues.specs.declared.lcfs.Lcfs.{Lcfs}
-use Rattle.queues.specs.contracts.fcfs_calls.FcfsDiscipline.TheImpl.{ghosts as fcfs}
-use Rattle.queues.specs.contracts.lcfs_calls.LcfsDiscipline.TheImpl.{ghosts as lcfs}
+use Rattle.queues.specs.Disciplines.{Fcfs, Lcfs, fcfs-ghosts as fcfs, lcfs-ghosts as lcfs}
 use Rattle.discipline.specs.declared.Discipline.{Ghosts}
 use Rattle.run.specs.declared.run.Run.{Run}
 use Rattle.run.specs.declared.line.Line.{Line}

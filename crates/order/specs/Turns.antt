@@ -1,10 +1,8 @@
 -- A turn under round robin: one job is served, unit by unit, while others may enter.
 use Rattle.std.specs.Prelude.{◌≡◌, ℕ, ◌+◌, ◌<◌, List, [], ◌∷◌, ◌++◌, Ok, slice_index}
-use Rattle.queues.specs.declared.round_robin.RoundRobin.{RoundRobin}
-use Rattle.queues.specs.contracts.round_robin_calls.RoundRobinDiscipline.TheImpl.{ghosts as round_robins}
-use Rattle.discipline.specs.Rows.{times}
+use Rattle.queues.specs.Disciplines.{RoundRobin, round-ghosts as round_robins, round_queue}
+use Rattle.queues.specs.Rows.{times}
 use Rattle.queues.specs.Queues.{Queue, queue, round_robin}
-use Rattle.queues.specs.Views.{round_queue}
 use Rattle.run.specs.declared.run.Run.{Run}
 use Rattle.run.specs.declared.lease.Lease.{Lease}
 use Rattle.run.specs.Runs.{meaning, discipline_of, Untouched}

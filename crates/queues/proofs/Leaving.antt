@@ -3,8 +3,8 @@ use Rattle.std.specs.Prelude.{◌≡◌, ℕ, ◌<◌, cond, List, length, slice
 use Rattle.std.proofs.Common.{sym, ap, subst, ◌∙◌, ⊎_elim, arith}
 use Rattle.std.proofs.lemmas.Bool.{cases_eq, eq-eqb, ne_eqb}
 use Rattle.discipline.specs.Meaning.{count_present}
-use Rattle.discipline.specs.Rows.{without, leaves}
-use Rattle.discipline.proofs.Admitted.{Once, length_without, count_same, count_less, once_same, once_less, here}
+use Rattle.queues.specs.Rows.{without, leaves, Once}
+use Rattle.queues.proofs.Admitted.{length_without, count_same, count_less, once_same, once_less, here}
 
 module _ (left : List ℕ) (n v : ℕ) (low : n < length left) where
   -- a job that has had a unit stays or leaves

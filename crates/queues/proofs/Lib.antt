@@ -1,4 +1,5 @@
+pub mod Admitted
+pub mod Found
 pub mod Ring
 pub mod Turning
-pub mod Following
 pub mod Leaving

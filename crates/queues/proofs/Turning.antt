@@ -1,19 +1,19 @@
 -- The front of a row sent to its end, and a full turn of round robin.
-use Rattle.std.proofs.Common.{◌≡◌, ℕ, ◌+◌, ◌<◌, cond, eqb, List, [], ◌∷◌, ◌++◌, length, take, drop, sym, refl, ap, ◌∙◌, arith}
+use Rattle.std.proofs.Common.{◌≡◌, ℕ, ◌+◌, ◌<◌, cond, eqb, List, [], ◌∷◌, ◌++◌, length, sym, refl, ap, ◌∙◌, arith}
 use Rattle.std.specs.List.{AllByRecursion}
 use Rattle.std.proofs.lemmas.Bool.{eq-eqb, ne_eqb}
 use Rattle.std.proofs.lemmas.List.{append_assoc, append-nil, length_push}
 use Rattle.discipline.specs.Meaning.{Move, cleared, admitted, worked}
-use Rattle.discipline.specs.Rows.{times, leaves}
 use Rattle.queues.specs.Queues.{Queue, queue, round_robin, rounds, turned}
 use Rattle.queues.specs.Laws.{WithinTurn, after_moves, units_among, admitted_by}
-use Rattle.discipline.proofs.Admitted.{times_push}
+use Rattle.queues.specs.Rows.{front_to_end, times, leaves}
+use Rattle.queues.proofs.Admitted.{times_push}
 
-pub length-turned : (xs : List ℕ) → length (drop 1 xs ++ take 1 xs) ≡ length xs
+pub length-turned : (xs : List ℕ) → length (front_to_end xs) ≡ length xs
 length-turned [] = refl
 length-turned (x ∷ xs) = length_push xs x ∙ omega arith
 
-pub times-turned : (xs : List ℕ) (k : ℕ) → times k (drop 1 xs ++ take 1 xs) ≡ times k xs
+pub times-turned : (xs : List ℕ) (k : ℕ) → times k (front_to_end xs) ≡ times k xs
 times-turned [] k = refl
 times-turned (x ∷ xs) k = times_push xs x k ∙ omega arith
 

@@ -2,16 +2,24 @@
 use Rattle.std.specs.Prelude.{◌≡◌, ℕ, ◌+◌, ◌<◌, List, [], ◌∷◌, ◌++◌}
 use Rattle.std.specs.List.{AllByRecursion}
 use Rattle.discipline.specs.Meaning.{Move, cleared, admitted, worked}
+use Rattle.discipline.specs.declared.Discipline.{Ghosts}
+use Rattle.queues.specs.declared.row_discipline.RowDiscipline.{RowDiscipline}
+use Rattle.queues.specs.declared.service.Service.{Ghosts as Serving}
+use Rattle.queues.specs.Disciplines.{Fcfs, fcfs-ghosts, order_of, reordered}
 use Rattle.queues.specs.Queues.{Queue, queue, round_robin, moved}
-use Rattle.queues.specs.Views.{fcfs_queue, lcfs_queue, round_queue}
+use Rattle.queues.specs.Rows.{first_of}
+use Rattle.queues.specs.Views.{queue_of}
 use Rattle.queues.specs.Follows.{Follows}
-use Rattle.queues.specs.contracts.fcfs_calls.FcfsDiscipline.TheImpl.{ghosts as fcfs-ghosts}
-use Rattle.queues.specs.contracts.lcfs_calls.LcfsDiscipline.TheImpl.{ghosts as lcfs-ghosts}
-use Rattle.queues.specs.contracts.round_robin_calls.RoundRobinDiscipline.TheImpl.{ghosts as round-ghosts}
 
--- Each of the three follows the queue that is read off it.
-abbrev pub RowDisciplinesFollow : Type 0
-RowDisciplinesFollow = Follows fcfs-ghosts fcfs_queue × Follows lcfs-ghosts lcfs_queue × Follows round-ghosts round_queue
+-- A row discipline under the service s follows the queue that is read off it.
+abbrev pub RowDisciplinesFollow : {S : Type 0} → Serving S → Ghosts (RowDiscipline S) → Type 0
+RowDisciplinesFollow s d = Follows d (queue_of s)
+
+-- Under FCFS each call moves the order of admission as it should, and the choice is the front of it.
+abbrev pub FcfsKeepsOrder : Type 0
+FcfsKeepsOrder =
+    ((m : Move) (x y : Fcfs) → fcfs-ghosts.moves m x y → order_of y ≡ reordered m (order_of x))
+    × ((x : Fcfs) → fcfs-ghosts.choice x ≡ first_of (order_of x))
 
 -- The queue after a list of moves, the first move first.
 abbrev pub after_moves : List Move → Queue → Queue

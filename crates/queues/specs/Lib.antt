@@ -1,6 +1,7 @@
 pub mod Rows
 pub mod Queues
 pub mod Views
+pub mod Disciplines
 pub mod Follows
 pub mod Quanta
 pub mod Laws

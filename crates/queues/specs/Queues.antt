@@ -1,8 +1,7 @@
 -- How the disciplines that keep a row choose, and how row and turn move.
-use Rattle.std.specs.Prelude.{ℕ, ◌+◌, cond, List, [], ◌∷◌, ◌++◌, take, drop, Option, ◌==◌}
+use Rattle.std.specs.Prelude.{ℕ, ◌+◌, Bool, false, cond, List, [], ◌∷◌, ◌++◌, Option, ◌==◌}
 use Rattle.discipline.specs.Meaning.{Move, cleared, admitted, worked}
-use Rattle.discipline.specs.Rows.{first_of, leaves}
-use Rattle.queues.specs.Rows.{last_of}
+use Rattle.queues.specs.Rows.{first_of, last_of, front_to_end, leaves}
 
 -- First come first served; last come first served, preemptive; round robin with a quantum.
 pub data Rule : Type 0 where
@@ -35,12 +34,21 @@ turned q l x xs turn =
     (cond (turn + 1 == q) (queue (round_robin q) (xs ++ x ∷ []) 0)
     (queue (round_robin q) (x ∷ xs) (turn + 1)))
 
--- The same, told of the row that a finished front has left already.
-abbrev pub fronted : ℕ → ℕ → List ℕ → ℕ → Queue
-fronted q l row turn =
-    cond (l == 0) (queue (round_robin q) row 0)
-    (cond (turn + 1 == q) (queue (round_robin q) (drop 1 row ++ take 1 row) 0)
-    (queue (round_robin q) row (turn + 1)))
+-- Whether the front goes to the end when it has had one more unit, l are left, and it had turn units before.
+abbrev pub ends_turn : Rule → ℕ → ℕ → Bool
+ends_turn fcfs l turn = false
+ends_turn lcfs l turn = false
+ends_turn (round_robin q) l turn = cond (l == 0) false (turn + 1 == q)
+
+-- How many units the front then has had in its turn.
+abbrev pub turn_after : Rule → ℕ → ℕ → ℕ
+turn_after fcfs l turn = turn
+turn_after lcfs l turn = turn
+turn_after (round_robin q) l turn = cond (l == 0) 0 (cond (turn + 1 == q) 0 (turn + 1))
+
+-- The queue then, told of the row that a finished front has left already.
+abbrev pub fronted : Rule → ℕ → List ℕ → ℕ → Queue
+fronted rule l row turn = queue rule (cond (ends_turn rule l turn) (front_to_end row) row) (turn_after rule l turn)
 
 -- Round robin with quantum q after a unit on job n that leaves l: a job that is not the front leaves the turn alone.
 abbrev pub rounds : ℕ → ℕ → ℕ → List ℕ → ℕ → Queue

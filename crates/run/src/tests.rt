@@ -1,6 +1,6 @@
 // Examples at the edge of the rules: sizes, names, and entering while a lease is out.
 use crate::run::Run;
-use discipline::Fcfs;
+use queues::Fcfs;
 use refusal::Refusal;
 use std::test::Fail;
 

@@ -1,6 +1,6 @@
 // SRPT beside first come, first served: one list of calls on two runs, printed call by call.
 use contest::{Call, Hand, Pair, Round, contest};
-use discipline::Fcfs;
+use queues::Fcfs;
 use run::Run;
 use show::Summary;
 use std::alloc::{AllocError, Global};

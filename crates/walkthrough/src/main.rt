@@ -4,8 +4,8 @@
 mod print;
 mod stray;
 
-use discipline::Fcfs;
 use print::{enter, pass, sojourn, summary, tick};
+use queues::Fcfs;
 use run::Run;
 use show::{After, Answer, End, Figures};
 use std::io;

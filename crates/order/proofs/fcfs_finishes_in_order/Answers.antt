@@ -1,5 +1,5 @@
 use Rattle.std.proofs.Common.{refl}
-use Rattle.queues.specs.contracts.fcfs_calls.FcfsDiscipline.TheImpl.{ghosts}
+use Rattle.queues.specs.Disciplines.{fcfs-ghosts as ghosts}
 use Rattle.order.proofs.Chosen.{fcfs_sound, fcfs_row, fcfs_moves}
 use Rattle.order.proofs.Entering.{by_earliest, finish_in_order}
 use Rattle.order.proofs.fcfs_finishes_in_order.Goals as goal

@@ -1,5 +1,5 @@
 use Rattle.std.proofs.Common.{refl}
-use Rattle.queues.specs.contracts.lcfs_calls.LcfsDiscipline.TheImpl.{ghosts}
+use Rattle.queues.specs.Disciplines.{lcfs-ghosts as ghosts}
 use Rattle.order.proofs.Chosen.{lcfs_sound, lcfs_row, lcfs_moves}
 use Rattle.order.proofs.Entering.{by_latest, largest}
 use Rattle.order.proofs.lcfs_serves_latest.Goals as goal

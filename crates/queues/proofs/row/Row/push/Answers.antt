@@ -1,20 +1,12 @@
-use Rattle.std.proofs.Common.{◌+◌, take, set, ap, ◌∙◌, arith}
-use Rattle.std.proofs.lemmas.List.{length-set}
-use Rattle.queues.specs.Rows.{around}
-use Rattle.queues.proofs.Ring.{row_len, row_push}
+use Rattle.std.proofs.Common.{ℕ, ◌+◌, ◌<◌, List, [], ◌∷◌, ◌++◌, length, set, ap, ◌∙◌, arith}
+use Rattle.queues.specs.Rows.{in_ring}
+use Rattle.queues.proofs.Ring.{long_row, row_push}
 use Rattle.queues.proofs.row.Row.push.Goals as goal
-
-pub invariant_of-self : goal.invariant_of-self
-invariant_of-self c =
-    let r = c.args.self.now in
-    record {
-      long = length-set r.items c.place-at.result c.args.number ∙ r.long;
-      within = r.within;
-      few = omega (arith, c.requires, row_len r);
-    }
 
 pub returns : goal.returns
 returns c =
-    let r = c.args.self.now in
-    ap (λ n. take (r.len + 1) (around r.front (set r.items n c.args.number))) c.place-at.ensures.is
-    ∙ row_push r.items r.front r.long r.within r.len r.few c.args.number (omega (arith, c.requires, row_len r))
+    let r = c.self.inside in
+    let room : r.len < 1024 = omega (arith, c.requires, ap length c.self.view_is, long_row c.self.invariant) in
+    ap (λ n. in_ring (set r.items n c.args.number) r.front (r.len + 1)) c.place-at.ensures.is
+    ∙ row_push c.self.invariant c.args.number room
+    ∙ ap (λ (xs : List ℕ). xs ++ c.args.number ∷ []) c.self.view_is
