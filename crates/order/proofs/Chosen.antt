@@ -1,15 +1,24 @@
--- The meanings of first come first served and last come first served are sound, and their rows keep the order of entry.
+-- The meanings of the row disciplines are sound, and the rows of first and of last come first served keep the order of entry.
 use Rattle.std.proofs.Common.{◌≡◌, ℕ, List, ap}
-use Rattle.queues.specs.Disciplines.{Fcfs, Lcfs, fcfs-ghosts as fcfs, lcfs-ghosts as lcfs, fcfs_queue, lcfs_queue, reordered}
+use Rattle.queues.specs.Disciplines.{Fcfs, Lcfs, RoundRobin, fcfs-ghosts as fcfs, lcfs-ghosts as lcfs, round-ghosts as round, fcfs_queue, lcfs_queue, reordered}
 use Rattle.discipline.specs.Meaning.{Move, cleared, admitted, worked, Sound}
-use Rattle.queues.specs.Queues.{Queue}
-use Rattle.queues.specs.Lasting.{first_chosen, last_chosen}
+use Rattle.queues.specs.Queues.{Queue, Rule, choice_by}
+use Rattle.queues.specs.Queues as Q
+use Rattle.queues.specs.Lasting.{rule_chosen}
+use Rattle.queues.specs.declared.jobs.Jobs.{Jobs}
+
+-- whichever rule picks
+row_sound : (rule : Rule) (jobs : Jobs) → Sound jobs.left (choice_by rule jobs.row)
+row_sound rule jobs = record { long = jobs.long; fits = jobs.fits; chosen = rule_chosen rule jobs.row jobs.left jobs.once }
 
 pub fcfs_sound : (x : Fcfs) → Sound (fcfs.present x) (fcfs.choice x)
-fcfs_sound x = record { long = x.jobs.long; fits = x.jobs.fits; chosen = first_chosen _ x.jobs.left x.jobs.once }
+fcfs_sound x = row_sound Q.fcfs x.jobs
 
 pub lcfs_sound : (x : Lcfs) → Sound (lcfs.present x) (lcfs.choice x)
-lcfs_sound x = record { long = x.jobs.long; fits = x.jobs.fits; chosen = last_chosen _ x.jobs.left x.jobs.once }
+lcfs_sound x = row_sound Q.lcfs x.jobs
+
+pub round_sound : (x : RoundRobin) → Sound (round.present x) (round.choice x)
+round_sound x = row_sound (Q.round_robin x.service.quantum.units) x.jobs
 
 -- ---- the rows
 

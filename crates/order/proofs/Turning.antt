@@ -11,6 +11,8 @@ use Rattle.run.specs.States.{State}
 use Rattle.run.specs.Runs.{meaning}
 use Rattle.run.proofs.Ended.{present_below}
 use Rattle.run.proofs.Accepting.{done_ok}
+use Rattle.run.proofs.Tying.{tied_run}
+use Rattle.order.proofs.Chosen.{round_sound}
 use Rattle.order.specs.Turns as T
 use Rattle.order.specs.Turns.{queue_of, UnitOf, Served, FullTurnGoesBehind}
 use Rattle.order.proofs.Rising.{in_row}
@@ -29,7 +31,7 @@ unit_left : (x y : Run RoundRobin ghosts) (n : ℕ) (c : UnitOf n x y) → get_o
 unit_left x y n c =
     let s = meaning ghosts x in
     let j = c.lease.job in
-    let here = (done_ok s c.lease tt c.calls.does.answers).here in
+    let here = (done_ok s c.lease tt (tied_run ghosts round_sound x) c.calls.does.answers).here in
     let long : length s.present ≡ 1024 = x.discipline.jobs.long in
     let low : j < length s.present = omega (arith, present_below s.present j long here) in
     subst (λ i. get_or (meaning ghosts y).present i 0 ≡ get_or s.present i 0 - 1) c.on
