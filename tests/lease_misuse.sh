@@ -10,7 +10,7 @@ trap 'rm -rf "$work"' EXIT
 
 # A repository of the libraries alone, without their edits and tests, and one program.
 mkdir -p "$work/crates/misuse/src"
-for crate in refusal job discipline run; do
+for crate in refusal job discipline queues run; do
     mkdir -p "$work/crates/$crate"
     for part in src specs proofs; do
         [ ! -d "$top/crates/$crate/$part" ] || cp -r "$top/crates/$crate/$part" "$work/crates/$crate/$part"
@@ -19,8 +19,8 @@ for crate in refusal job discipline run; do
     sed -i '/^#\[cfg(test)\]$/d; /^mod tests;$/d' "$work/crates/$crate/src/lib.rt"
 done
 {
-    grep -E '^(refusal|job|discipline|run):' "$top/crates.txt"
-    echo 'misuse: refusal job discipline run'
+    grep -E '^(refusal|job|discipline|queues|run):' "$top/crates.txt"
+    echo 'misuse: refusal job discipline queues run'
 } >"$work/crates.txt"
 
 # check BODY: the answer of the check to a program in which `after_take` has that body.
@@ -28,7 +28,7 @@ check() {
     cat >"$work/crates/misuse/src/main.rt" <<RATTLE
 #![tactic(auto)]
 
-use discipline::fcfs::Fcfs;
+use queues::Fcfs;
 use run::lease::Lease;
 use run::run::Run;
 
