@@ -18,6 +18,7 @@ pub struct Lines<'a> {
 
 impl<'a> Lines<'a> {
     // The lines of a trace, none of them taken yet.
+    #[tactic(auto, using(crate::proofs::Ahead::whole_ahead, crate::proofs::Ahead::none_refused))]
     pub fn new(trace: &'a [u8]) -> Self
         ensures whole { result.trace.now ≡ trace.now }
         ensures start { result.place ≡ 0 }

@@ -1,9 +1,9 @@
 // Spans: bytes of a trace that lie together, how they are cut, and the tokens that they are read as.
-ghost use Rattle.std.specs.Prelude.{◌≡◌, ℕ, ◌+◌, ◌^◌, ◌<◌, ◌∷◌, ◌++◌, length, IfSome, MatchOption};
+ghost use Rattle.std.specs.Prelude.{◌≡◌, ℕ, ◌+◌, ◌^◌, ◌<◌, ◌∷◌, ◌++◌, length, IfSome, MatchOption, IsTrue, ◌↔◌};
 ghost use Rattle.std.specs.Option.{SomeIff};
 ghost use Rattle.std.specs.Char.{digit_value};
 ghost use Rattle.trace.specs.Lines.{Spells};
-ghost use Rattle.trace.specs.Inner.{is_short};
+ghost use Rattle.trace.specs.Inner.{IsShort};
 
 use crate::token::{Number, Word};
 
@@ -20,7 +20,7 @@ pub(crate) struct Span<'a> {
 
 // Whether there are as many bytes as a number has digits, and no 0 stands in front of others.
 fn is_short(bytes: &[u8]) -> bool
-    ensures { result ≡ is_short bytes.now }
+    ensures { IsTrue result ↔ IsShort bytes.now }
 {
     !bytes.is_empty() && bytes.len() <= MAX_DIGITS && (bytes[0] != b'0' || bytes.len() == 1)
 }
