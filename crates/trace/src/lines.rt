@@ -10,7 +10,7 @@ use crate::refused::TraceRefusal;
 
 // The lines of a trace from its first byte on, each with its place. The first that is refused ends them.
 // It takes time in the length of the trace to go through them.
-#[derive(Clone, Copy)]
+#[derive(Drop)]
 pub struct Lines<'a> {
     trace: &'a [u8],
     place: usize,

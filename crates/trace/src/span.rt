@@ -10,14 +10,6 @@ use crate::token::{Number, Word};
 // The most digits of a number.
 const MAX_DIGITS: usize = 6;
 
-// Bytes of a trace that lie together, and the place of the first.
-#[derive(Clone, Copy)]
-pub(crate) struct Span<'a> {
-    pub bytes: &'a [u8],
-    pub place: usize,
-    ghost fits: { place + length bytes.now < 2 ^ 64 },
-}
-
 // Whether there are as many bytes as a number has digits, and no 0 stands in front of others.
 fn is_short(bytes: &[u8]) -> bool
     ensures { IsTrue result ↔ IsShort bytes.now }
@@ -39,11 +31,20 @@ fn value_of(bytes: &[u8]) -> Option<u32>
     if !is_short(bytes) {
         return None;
     }
+    // A loop and no `try_fold`: that the value stays small is an invariant, and a fold's closure has none.
     let mut value = 0;
     for byte in bytes {
         value = value * 10 + digit(*byte)?;
     }
     Some(value)
+}
+
+// Bytes of a trace that lie together, and the place of the first.
+#[derive(Clone, Copy)]
+pub(crate) struct Span<'a> {
+    pub bytes: &'a [u8],
+    pub place: usize,
+    ghost fits: { place + length bytes.now < 2 ^ 64 },
 }
 
 impl<'a> Span<'a> {
