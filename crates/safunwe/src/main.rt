@@ -11,6 +11,7 @@ use trace::lines::Lines;
 use trace::whole::{Counts, MAX_TRACE, whole_trace};
 
 // The most bytes that are read: one more than a trace may have, by which a longer input is known.
+// It is cast, since a constant calls no function and `u64` has no `From<usize>`.
 const MAX_READ: u64 = MAX_TRACE as u64 + 1;
 
 // One line: its place, and what its tokens say.

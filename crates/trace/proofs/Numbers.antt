@@ -1,5 +1,5 @@
 -- What a spelled number looks like, and that digits with no leading zero are one.
-use Rattle.std.proofs.Common.{◌≡◌, ℕ, zero, suc, ◌<◌, ◌≤◌, true, eqb, List, length, get_or, take, decimal, sym, refl, ap, ◌∙◌, subst, ⊎_elim, arith, length-take-le}
+use Rattle.std.proofs.Common.{◌≡◌, ℕ, zero, suc, ◌<◌, ◌≤◌, List, length, get_or, take, decimal, sym, refl, ap, ◌∙◌, subst, arith, length-take-le}
 use Rattle.std.specs.Int.{IsInRange}
 use Rattle.std.specs.Char.{digit_value}
 use Rattle.std.specs.Str.Parse.{AllDigits, digits_value}
@@ -7,8 +7,7 @@ use Rattle.std.proofs.lemmas.Str.{digit_value_digit}
 use Rattle.std.proofs.lemmas.Str.Parse.{IsNumeralModel, digits_value_short, numerals_by_value, tells_digits, digit_at}
 use Rattle.std.proofs.lemmas.Fmt.{decimal-digits_value, digits_value-decimal, digits_decimal, decimal_nonempty, decimal_digit, first_decimal, length-decimal-le}
 use Rattle.std.proofs.ByRecursion.{All-from_get_or}
-use Rattle.std.proofs.lemmas.Bool.{and_from, and_parts, or_left, or_right, or_cases, le-leb, leb-true, eq-eqb, eqb-true, cases_Bool, not_from_false, not-true, both_ways}
-use Rattle.trace.specs.Inner.{is_short}
+use Rattle.trace.specs.Inner.{IsShort}
 use Rattle.trace.specs.Lines.{Spells, ByDigits, Lacks}
 
 -- Decimal digits and their value, as the shelf's lemmas take them.
@@ -38,44 +37,28 @@ spells_digit bs v i h l = digit_at bs i (subst (AllDigits 10) (sym h.1) (digits_
 pub spells_below : (bs : List ℕ) (v i : ℕ) → Spells bs v → i < length bs → digit_value (get_or bs i 0) < 10
 spells_below bs v i h l = let d = spells_digit bs v i h l in omega (arith, d.1, digit_value_digit (get_or bs i 0) d)
 
--- The value of what a loop over at most six digits has read before one of them.
-pub small : (bs : List ℕ) (i : ℕ) → i < length bs → length bs ≤ 6 → AllDigits 10 (take i bs) → digits_value 10 (take i bs) < 100000
-small bs i l six d =
-    let long : length (take i bs) ≤ 5 = omega (arith, length-take-le i bs (omega arith)) in
+-- The value of what is read of short bytes before one of them.
+pub small : (bs : List ℕ) (i : ℕ) → IsShort bs → i < length bs → AllDigits 10 (take i bs) → digits_value 10 (take i bs) < 100000
+small bs i h l d =
+    let long : length (take i bs) ≤ 5 = omega (arith, h.1, length-take-le i bs (omega arith)) in
     digits_value_short own (take i bs) 5 d long
 
 -- Bytes that spell a number are short ..
-pub spells_short : (bs : List ℕ) (n : ℕ) → Spells bs n → is_short bs ≡ true
-spells_short bs n h =
-    let long = spells_long bs n h in
-    and_from _ _ (le-leb 1 (length bs) long.0) (and_from _ _ (le-leb (length bs) 6 long.1)
-    (⊎_elim
-    (λ e. or_right _ _ (eq-eqb (length bs) 1 (spells_lead bs n h (eqb-true _ _ e))))
-    (λ e. or_left _ _ (not_from_false _ e))
-    (cases_Bool (eqb (get_or bs 0 0) 48))))
+pub spells_short : (bs : List ℕ) (n : ℕ) → Spells bs n → IsShort bs
+spells_short bs n h = let long = spells_long bs n h in (long.0, long.1, spells_lead bs n h)
 
--- .. and what short bytes are.
-pub short_facts : (bs : List ℕ) → is_short bs ≡ true → (0 < length bs) × (length bs ≤ 6) × (get_or bs 0 0 ≡ 48 → length bs ≡ 1)
-short_facts bs e =
-    let p = and_parts _ _ e in
-    let q = and_parts _ _ p.1 in (
-      leb-true 1 (length bs) p.0,
-      leb-true (length bs) 6 q.0,
-      λ z. ⊎_elim (λ w. absurd (both_ways _ (not-true _ w) (eq-eqb _ _ z))) (λ w. eqb-true _ _ w) (or_cases _ _ q.1),
-    )
-
--- Such digits spell their value.
-pub spells_value : (bs : List ℕ) → 0 < length bs → length bs ≤ 6 → (get_or bs 0 0 ≡ 48 → length bs ≡ 1) → AllDigits 10 bs → Spells bs (digits_value 10 bs)
-spells_value bs some six zeros d =
-    let few : digits_value 10 bs < 1000000 = digits_value_short own bs 6 d six in
-    (few, sym (decimal-digits_value own bs d some zeros (omega arith)))
+-- .. and short digits spell their value.
+pub spells_value : (bs : List ℕ) → IsShort bs → AllDigits 10 bs → Spells bs (digits_value 10 bs)
+spells_value bs h d =
+    let few : digits_value 10 bs < 1000000 = digits_value_short own bs 6 d h.1 in
+    (few, sym (decimal-digits_value own bs d h.0 h.2 (omega arith)))
 
 pub by_digits : ByDigits
 by_digits bs = (
   λ n h.
-      let long = spells_long bs n h in
-      ((long.0, long.1, subst (AllDigits 10) (sym h.1) (digits_decimal own n (omega arith)), spells_lead bs n h), sym (digits_value-decimal own n (omega arith)) ∙ ap (digits_value 10) (sym h.1)),
-  λ h. spells_value bs h.0 h.1 h.3 h.2,
+      let s = spells_short bs n h in
+      ((s.0, s.1, subst (AllDigits 10) (sym h.1) (digits_decimal own n (omega arith)), s.2), sym (digits_value-decimal own n (omega arith)) ∙ ap (digits_value 10) (sym h.1)),
+  λ h. spells_value bs (h.0, h.1, h.3) h.2,
 )
 
 -- A spelled number has no byte below its digits, as a space or an LF.

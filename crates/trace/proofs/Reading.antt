@@ -1,23 +1,16 @@
 -- From the tokens that are read to the line that stands at a place.
-use Rattle.std.proofs.Common.{◌≡◌, ℕ, ◌+◌, ◌≤◌, List, [], ◌∷◌, ◌++◌, length, drop, codes, decimal, sym, ap, ◌∙◌, subst, append_assoc, arith}
+use Rattle.std.proofs.Common.{◌≡◌, ℕ, ◌+◌, List, [], ◌∷◌, ◌++◌, length, drop, codes, decimal, sym, ap, ◌∙◌, append_assoc, arith}
 use Rattle.std.specs.List.{slice_range}
-use Rattle.std.proofs.lemmas.List.{drop_all, drop_at, drop-drop, length_push, take_rest}
-use Rattle.trace.specs.Lines.{Spells, Lacks, Word, Line, job, lost, Formed, fields, spelled, Stands}
-use Rattle.trace.specs.Tokens.{TokensAt, line_of}
-use Rattle.trace.specs.Inner.{ReadsNumber, ReadsWord, ReadsFields, ReadsTokens}
+use Rattle.std.proofs.lemmas.List.{drop_at, drop-drop, length_push, take_rest}
+use Rattle.trace.specs.Lines.{Spells, Lacks, Line, job, lost, Formed, fields, spelled, Stands}
+use Rattle.trace.specs.Tokens.{line_of}
 use Rattle.trace.specs.Answers.{LineFound}
-use Rattle.trace.specs.declared.token.Word.{Word as WordToken}
-use Rattle.trace.specs.declared.token.Number.{Number}
 use Rattle.trace.specs.declared.line.LineTokens.{LineTokens}
 use Rattle.trace.proofs.Cuts.{no_cut, same_cut}
 use Rattle.trace.proofs.Numbers.{decimal_lacks}
 use Rattle.trace.proofs.Unique.{apart, lacks_lf}
 
--- Past the end no line stands ..
-pub past_end : (trace : List ℕ) (p : ℕ) → length trace ≤ p → (l : Line) → Stands trace p l → ⊥
-past_end trace p end l h = no_cut 10 [] (spelled l) h.1.0 tt (sym (drop_all p trace end) ∙ h.1.1)
-
--- .. nor where no LF follows.
+-- Where no LF follows no line stands.
 pub no_lf : (trace : List ℕ) (p : ℕ) (bs : List ℕ) → bs ≡ slice_range trace p (length trace) → Lacks 10 bs → (l : Line) → Stands trace p l → ⊥
 no_lf trace p bs e lacks l h = no_cut 10 bs (spelled l) h.1.0 lacks (e ∙ take_rest trace p ∙ h.1.1)
 
@@ -52,23 +45,6 @@ tick_cut t s n f bs first more p e = same_cut 32 _ _ _ _ p.0 (decimal_lacks 32 t
 -- .. and at the next one behind the size.
 pub size_cut : (t s : ℕ) (n : List ℕ) → Formed (job t s n) → (bs first more second last : List ℕ) → Lacks 32 first × (bs ≡ first ++ 32 ∷ more) → Lacks 32 second × (more ≡ second ++ 32 ∷ last) → bs ≡ fields t s n → (second ≡ decimal s) × (last ≡ n)
 size_cut t s n f bs first more second last p q e = same_cut 32 _ _ _ _ q.0 (decimal_lacks 32 s (omega arith) f.1) (sym q.1 ∙ (tick_cut t s n f bs first more p e).1)
-
--- Three tokens that are read of bytes parted by spaces are those of the fields.
-pub fields_read : (bs first more second last : List ℕ) (start p q r : ℕ) (t s : Number) (n : WordToken) → bs ≡ first ++ 32 ∷ more → more ≡ second ++ 32 ∷ last
-    → ReadsNumber first p t → ReadsNumber second q s → ReadsWord last r n → p ≡ start → q ≡ start + length first + 1 → r ≡ q + length second + 1
-    → ReadsFields bs start t s n
-fields_read bs first more second last start p q r t s n e f a b d o g h = (
-  (a.2.0, b.2.0, subst Word (sym d.0) d.2),
-  e ∙ (λ i. a.2.1 i ++ 32 ∷ f i) ∙ (λ i. decimal t.value ++ 32 ∷ (b.2.1 i ++ 32 ∷ sym d.0 i)),
-  (a.0 ∙ a.2.1, a.1 ∙ o),
-  (b.0 ∙ b.2.1, omega (arith, a.1, b.1, ap length a.0, o, g)),
-  omega (arith, b.1, d.1, ap length b.0, h),
-)
-
--- The line whose tokens are read up to an LF is found.
-pub found : (trace : List ℕ) (p : ℕ) (bs line rest : List ℕ) (ts : LineTokens) (start next : ℕ) → bs ≡ slice_range trace p (length trace) → bs ≡ line ++ 10 ∷ rest → ReadsTokens line start ts → start ≡ p → next ≡ p + length line + 1 → LineFound trace p ts next
-found trace p bs line rest ts start next d e r s n =
-    record { stands = (r.0, (rest, sym (take_rest trace p) ∙ sym d ∙ e ∙ ap (λ b. b ++ 10 ∷ rest) r.1)); placed = subst (λ q. TokensAt q ts) s r.2; after = n ∙ ap (λ b. p + length b + 1) r.1 }
 
 -- What is left of the trace behind a line that is read.
 pub left_behind : (trace : List ℕ) (p : ℕ) (ts : LineTokens) (next : ℕ) (f : LineFound trace p ts next) → drop next trace ≡ f.stands.1.0

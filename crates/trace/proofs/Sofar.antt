@@ -1,6 +1,6 @@
 -- What the loop over the lines keeps, and what it comes to.
 use Rattle.std.proofs.Common.{◌≡◌, ℕ, ◌+◌, ◌<◌, ◌≤◌, cond, List, [], ◌∷◌, ◌++◌, length, drop, Some, None, Ok, Err, sym, refl, ap, ◌∙◌, subst, inl, inr, ⊎_elim, append_assoc, append-nil, arith}
-use Rattle.std.proofs.lemmas.List.{length-append, length_push, flat_map_more, drop_all}
+use Rattle.std.proofs.lemmas.List.{length-append, length_push, flat_map_more}
 use Rattle.std.proofs.lemmas.List.Sums.{fold_push}
 use Rattle.refusal.specs.declared.Refusal.{Refusal}
 use Rattle.refusal.specs.Causes.{number_of}
@@ -8,7 +8,7 @@ use Rattle.trace.specs.Lines.{Line, Formed, spelled, text}
 use Rattle.trace.specs.Rules.{is_job, jobs, opens, earliest, fault, misplaced, first, fault_after, Keep}
 use Rattle.trace.specs.Tokens.{line_of}
 use Rattle.trace.specs.Inner.{SeenMore}
-use Rattle.trace.specs.Answers.{reported, LineRead, Stopped, LineRefused, LinesRead, LinesRefused}
+use Rattle.trace.specs.Answers.{reported, LineRead, Stopped, LineRefused, LinesRefused}
 use Rattle.trace.specs.Walk.{GivesLine}
 use Rattle.trace.specs.declared.line.LineTokens.{LineTokens}
 use Rattle.trace.specs.declared.lines.Lines.{Lines}
@@ -59,11 +59,6 @@ goes_on trace start p s m ts next h r o c =
       few = c.few;
       short = omega (arith, r.0.after, h.short, c.lines_are);
     }
-
--- At the end of the trace all of it is read.
-pub at_end : (trace : List ℕ) (start p : ℕ) (s : Seen) → Sofar trace start p s → length trace ≤ p → LinesRead trace start s.counts
-at_end trace start p s h end =
-    record { lines = h.before; spells = h.spells ∙ ap (λ x. text h.before ++ x) (drop_all p trace end) ∙ append-nil _; keeps = h.keeps; jobs_counted = h.jobs_are; lines_counted = h.lines_are }
 
 module _ (trace : List ℕ) (start p : ℕ) (s : Seen) (h : Sofar trace start p s) (more : p < length trace) where
   stopped : (c : Refusal) → Stopped (fault_after h.before) trace p c → LinesRefused trace start (number_of c, p)

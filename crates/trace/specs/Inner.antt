@@ -1,5 +1,5 @@
 -- What the private functions of the reader answer; no public contract cites it.
-use Rattle.std.specs.Prelude.{◌≡◌, ℕ, ◌+◌, ◌≤◌, Bool, cond, not, ◌&&◌, ◌||◌, List, length, ◌==◌, nat_le, slice_index}
+use Rattle.std.specs.Prelude.{◌≡◌, ℕ, ◌+◌, ◌<◌, ◌≤◌, cond, List, length, slice_index}
 use Rattle.trace.specs.Lines.{Spells, Word, Line, job, Formed, fields, spelled}
 use Rattle.trace.specs.Rules.{is_job, opens}
 use Rattle.trace.specs.Tokens.{behind, NumberAt, TokensAt, line_of}
@@ -9,8 +9,8 @@ use Rattle.trace.specs.declared.line.LineTokens.{LineTokens}
 use Rattle.trace.specs.declared.whole.Seen.{Seen}
 
 -- There are 1 to 6 bytes, and a 0 (48) comes first only if it is alone.
-abbrev pub is_short : List ℕ → Bool
-is_short bs = nat_le 1 (length bs) && (nat_le (length bs) 6 && (not (slice_index bs 0 == 48) || length bs == 1))
+abbrev pub IsShort : List ℕ → Type 0
+IsShort bs = (0 < length bs) × (length bs ≤ 6) × (slice_index bs 0 ≡ 48 → length bs ≡ 1)
 
 -- The token is the word that the bytes are, with the place p.
 abbrev pub ReadsWord : List ℕ → ℕ → WordToken → Type 0

@@ -33,10 +33,8 @@ impl LineTokens<'_> {
     pub fn tick(&self) -> u32
         ensures { result ≡ line_tick (line_of self.now) }
     {
-        match self {
-            LineTokens::Job { tick, .. } => tick.value(),
-            LineTokens::Lost { tick, .. } => tick.value(),
-        }
+        let (LineTokens::Job { tick, .. } | LineTokens::Lost { tick, .. }) = self;
+        tick.value()
     }
 
     // Whether the line is a job.

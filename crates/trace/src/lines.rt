@@ -10,7 +10,7 @@ use crate::refused::TraceRefusal;
 
 // The lines of a trace from its first byte on, each with its place. The first that is refused ends them.
 // It takes time in the length of the trace to go through them.
-#[derive(Clone, Copy)]
+#[derive(Drop)]
 pub struct Lines<'a> {
     trace: &'a [u8],
     place: usize,
@@ -18,6 +18,7 @@ pub struct Lines<'a> {
 
 impl<'a> Lines<'a> {
     // The lines of a trace, none of them taken yet.
+    #[tactic(auto, using(crate::proofs::Ahead::whole_ahead, crate::proofs::Ahead::none_refused))]
     pub fn new(trace: &'a [u8]) -> Self
         ensures whole { result.trace.now ≡ trace.now }
         ensures start { result.place ≡ 0 }

@@ -1,26 +1,18 @@
 // Spans: bytes of a trace that lie together, how they are cut, and the tokens that they are read as.
-ghost use Rattle.std.specs.Prelude.{◌≡◌, ℕ, ◌+◌, ◌^◌, ◌<◌, ◌∷◌, ◌++◌, length, IfSome, MatchOption};
+ghost use Rattle.std.specs.Prelude.{◌≡◌, ℕ, ◌+◌, ◌^◌, ◌<◌, ◌∷◌, ◌++◌, length, IfSome, MatchOption, IsTrue, ◌↔◌};
 ghost use Rattle.std.specs.Option.{SomeIff};
 ghost use Rattle.std.specs.Char.{digit_value};
 ghost use Rattle.trace.specs.Lines.{Spells};
-ghost use Rattle.trace.specs.Inner.{is_short};
+ghost use Rattle.trace.specs.Inner.{IsShort};
 
 use crate::token::{Number, Word};
 
 // The most digits of a number.
 const MAX_DIGITS: usize = 6;
 
-// Bytes of a trace that lie together, and the place of the first.
-#[derive(Clone, Copy)]
-pub(crate) struct Span<'a> {
-    pub bytes: &'a [u8],
-    pub place: usize,
-    ghost fits: { place + length bytes.now < 2 ^ 64 },
-}
-
 // Whether there are as many bytes as a number has digits, and no 0 stands in front of others.
 fn is_short(bytes: &[u8]) -> bool
-    ensures { result ≡ is_short bytes.now }
+    ensures { IsTrue result ↔ IsShort bytes.now }
 {
     !bytes.is_empty() && bytes.len() <= MAX_DIGITS && (bytes[0] != b'0' || bytes.len() == 1)
 }
@@ -39,11 +31,20 @@ fn value_of(bytes: &[u8]) -> Option<u32>
     if !is_short(bytes) {
         return None;
     }
+    // A loop and no `try_fold`: that the value stays small is an invariant, and a fold's closure has none.
     let mut value = 0;
     for byte in bytes {
         value = value * 10 + digit(*byte)?;
     }
     Some(value)
+}
+
+// Bytes of a trace that lie together, and the place of the first.
+#[derive(Clone, Copy)]
+pub(crate) struct Span<'a> {
+    pub bytes: &'a [u8],
+    pub place: usize,
+    ghost fits: { place + length bytes.now < 2 ^ 64 },
 }
 
 impl<'a> Span<'a> {

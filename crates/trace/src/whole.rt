@@ -1,5 +1,5 @@
 // Whole traces: the call that reads every line, and what it counts.
-ghost use Rattle.std.specs.Prelude.{◌≡◌, ◌+◌, ◌^◌, ◌<◌, ◌≤◌, length, Some, None, MatchResult, nat_lt};
+ghost use Rattle.std.specs.Prelude.{◌≡◌, ◌+◌, ◌^◌, ◌<◌, ◌≤◌, length, Some, None, MatchResult, IsTrue, ◌↔◌};
 ghost use Rattle.trace.specs.Lines.{OneList};
 ghost use Rattle.trace.specs.Rules.{opens, misplaced};
 ghost use Rattle.trace.specs.Tokens.{line_of};
@@ -83,7 +83,7 @@ fn read_lines(trace: &[u8]) -> Result<Counts, TraceRefusal>
 
 // Whether there are more bytes than a trace may have.
 fn is_too_long(trace: &[u8]) -> bool
-    ensures { result ≡ nat_lt 65536 (length trace.now) }
+    ensures { IsTrue result ↔ 65536 < length trace.now }
 {
     trace.len() > MAX_TRACE
 }

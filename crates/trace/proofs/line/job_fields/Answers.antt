@@ -1,11 +1,11 @@
-use Rattle.std.proofs.Common.{sym, subst, ◌∙◌, arith}
+use Rattle.std.proofs.Common.{rules, sym, subst}
 use Rattle.trace.specs.Lines.{Word}
 use Rattle.trace.proofs.Cuts.{no_cut}
-use Rattle.trace.proofs.Reading.{tick_cut, size_cut, fields_read}
+use Rattle.trace.proofs.Reading.{tick_cut, size_cut}
 use Rattle.trace.proofs.line.job_fields.Goals as goal
 
 pub returns-in_err-tick : goal.returns-in_err-tick
-returns-in_err-tick c = rw c.from_residual.ensures (λ t s n f e. no_cut 32 _ _ _ c.in_err-tick.ensures.cuts e)
+returns-in_err-tick c = search (rules, no_cut)
 
 pub returns-in_err-size : goal.returns-in_err-size
 returns-in_err-size c = rw c.from_residual-in_err-size.ensures (λ t s n f e. no_cut 32 _ _ _ c.in_err-size.ensures.cuts (tick_cut t s n f _ _ _ c.in_ok-tick.ensures.cuts e).1)
@@ -18,9 +18,3 @@ returns-in_err-number-2 c = rw c.from_residual-in_err-number-2.ensures (λ t s n
 
 pub returns-in_err-word : goal.returns-in_err-word
 returns-in_err-word c = rw c.from_residual-in_err-word.ensures (λ t s n f e. c.in_err-word.ensures (subst Word (sym (size_cut t s n f _ _ _ _ _ c.in_ok-tick.ensures.cuts c.in_ok-size.ensures.cuts e).1) f.2))
-
-pub returns : goal.returns
-returns c =
-    let a = c.in_ok-tick.ensures in
-    let b = c.in_ok-size.ensures in
-    fields_read _ _ _ _ _ _ _ _ _ c.in_ok-number.field-0 c.in_ok-number-2.field-0 c.in_ok-word.field-0 a.cuts.1 b.cuts.1 c.in_ok-number.ensures c.in_ok-number-2.ensures c.in_ok-word.ensures a.places.0 (b.places.0 ∙ a.places.1) (omega (arith, b.places.0, b.places.1))

@@ -4,9 +4,7 @@ use Rattle.trace.proofs.Reading.{keyword_cut, no_lost}
 use Rattle.trace.proofs.line.tokens.Goals as goal
 
 pub returns-in_err-tick-in-lost : goal.returns-in_err-tick-in-lost
-returns-in_err-tick-in-lost c = rw c.from_residual-in_err-tick-in-lost.ensures (λ l f e.
-    let front : c.in_ok-front.front.bytes.now ≡ codes "lost" = search (rules, text_from_reads) in
-    no_lost l _ _ f front (keyword_cut l _ _ _ c.in_ok-front.ensures.cuts e) c.in_err-tick-in-lost.ensures)
+returns-in_err-tick-in-lost c = search (rules, text_from_reads, keyword_cut, no_lost)
 
 pub returns-in_ok-tick-in-lost : goal.returns-in_ok-tick-in-lost
 returns-in_ok-tick-in-lost c =

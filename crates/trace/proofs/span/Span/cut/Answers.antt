@@ -1,11 +1,6 @@
 use Rattle.std.proofs.Common.{◌≡◌, ℕ, ◌<◌, length, get_or, rules}
-use Rattle.trace.proofs.Cuts.{lacks_at_all, first_cut}
+use Rattle.trace.proofs.Cuts.{first_cut}
 use Rattle.trace.proofs.span.Span.cut.Goals as goal
-
-pub returns-in_err-at-clause-cuts : goal.returns-in_err-at-clause-cuts
-returns-in_err-at-clause-cuts c =
-    let h : (k : ℕ) → k < length c.args.self.bytes.now → get_or c.args.self.bytes.now k 0 ≡ c.args.end → ⊥ = search rules in
-    rw c.from_residual.ensures (lacks_at_all _ _ h)
 
 pub returns-clause-cuts : goal.returns-clause-cuts
 returns-clause-cuts c =

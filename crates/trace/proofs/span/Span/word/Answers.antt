@@ -1,4 +1,4 @@
-use Rattle.std.proofs.Common.{sym, arith, rules, false-eqb, eqb-true}
+use Rattle.std.proofs.Common.{rules, eqb-true}
 use Rattle.trace.proofs.Cuts.{lacks_at_all, lacks_nowhere}
 use Rattle.trace.proofs.span.Span.word.Goals as goal
 use Rattle.trace.proofs.span.Span.word.Goals.{then-is_empty-via-then-is_empty, then-is_empty-via-else-is_empty+then-contains, then-is_empty-via-else-is_empty+else-contains+then-contains-2}
@@ -11,7 +11,4 @@ returns-then-is_empty c = λ w. elim c.then-is_empty.branch [
 ]
 
 pub returns : goal.returns
-returns c =
-    let space = lacks_at_all 32 c.args.self.bytes.now (λ k lt. false-eqb _ _ (sym (c.if-contains.ensures.cases k 0 (omega arith) lt))) in
-    let lf = lacks_at_all 10 c.args.self.bytes.now (λ k lt. false-eqb _ _ (sym (c.if-contains-2.ensures.cases k 0 (omega arith) lt))) in
-    search rules
+returns c = search (rules, lacks_at_all)
