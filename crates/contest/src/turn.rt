@@ -1,5 +1,5 @@
 // One call on both runs of a contest.
-ghost use Rattle.srpt.specs.contracts.srpt_calls.SrptDiscipline.TheImpl.{ghosts};
+ghost use Rattle.srpt.specs.contracts.srpt.SrptDiscipline.TheImpl.{ghosts};
 ghost use Rattle.contest.specs.Played.{Ready};
 ghost use Rattle.contest.specs.Contested.{Turns};
 

@@ -1,5 +1,5 @@
 -- What `insert`, `replace` and `remove` do to the keys before one of them is settled.
-use Rattle.std.proofs.Common.{◌≡◌, ℕ, ◌+◌, ◌<◌, Bool, cond, eqb, ◌⊎◌, List, length, get_or, set, Some, None, sym, refl, ap, ◌∙◌, inl, inr, ⊎_elim, arith}
+use Rattle.std.proofs.Common.{◌≡◌, ℕ, ◌+◌, ◌<◌, Bool, cond, eqb, ◌⊎◌, List, length, get_or, set, Some, None, Ok, sym, refl, ap, ◌∙◌, inl, inr, ⊎_elim, arith}
 use Rattle.std.proofs.lemmas.List.{get_or-set_same, get_or-set_other, length-set, get_or_default}
 use Rattle.std.proofs.lemmas.Bool.{cases_eq, eq-eqb, ne_eqb}
 use Rattle.heap.specs.Order.{Ordered}
@@ -7,14 +7,13 @@ use Rattle.heap.specs.Held.{held, put, without}
 use Rattle.heap.specs.InOrder.{Low, InOrder}
 use Rattle.heap.specs.Answers.{Seated}
 use Rattle.heap.specs.Sifting.{Sifting}
-use Rattle.heap.specs.declared.read.Seat.TheVariants.{Free, Taken}
 use Rattle.heap.proofs.Pigeons.{pigeon}
 use Rattle.heap.proofs.Handles.{held_at, held_none, held_alike, some_key}
 use Rattle.heap.proofs.Reading.{heap_of, in_order_apart, sifting_apart}
 
 module _ {K : Type 0} {handle : K → ℕ} {before : K → K → Bool} where
   -- `insert`
-  module _ {xs : List K} {ps : List ℕ} {n : ℕ} (s : InOrder handle before xs ps n) (k : K) (free : Seated handle xs ps n (handle k) Free) where
+  module _ {xs : List K} {ps : List ℕ} {n : ℕ} (s : InOrder handle before xs ps n) (k : K) (free : Seated handle xs ps n (handle k) (Ok None)) where
     low : Low xs ps (handle k)
     low = let l = free.0 in (omega arith, omega arith, omega arith)
 
@@ -73,7 +72,7 @@ module _ {K : Type 0} {handle : K → ℕ} {before : K → K → Bool} where
         (cases_eq h (handle k))
 
   -- `replace`: the key at j gives way to k
-  module _ (o : Ordered handle before) {xs : List K} {ps : List ℕ} {n : ℕ} (s : InOrder handle before xs ps n) (k : K) (j : ℕ) (taken : Seated handle xs ps n (handle k) (Taken j)) where
+  module _ (o : Ordered handle before) {xs : List K} {ps : List ℕ} {n : ℕ} (s : InOrder handle before xs ps n) (k : K) (j : ℕ) (taken : Seated handle xs ps n (handle k) (Ok (Some j))) where
     in' : j < n
     in' = taken.1
 

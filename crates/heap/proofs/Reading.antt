@@ -1,13 +1,14 @@
 -- What can be read off a heap in order: where a key is, what is held at a handle, and which key is the first.
-use Rattle.std.proofs.Common.{◌≡◌, ℕ, zero, suc, ◌+◌, ◌-◌, ◌/◌, ◌<◌, ◌≤◌, Bool, List, [], ◌∷◌, length, get_or, is_some, Some, None, sym, refl, ap, ◌∙◌, subst, ⊎_elim, arith}
+use Rattle.std.proofs.Common.{◌≡◌, ℕ, zero, suc, ◌+◌, ◌-◌, ◌/◌, ◌<◌, ◌≤◌, Bool, false, List, [], ◌∷◌, length, get_or, is_some, Some, None, Ok, Err, Option, Result, sym, refl, ap, ◌∙◌, subst, ⊎_elim, arith}
 use Rattle.std.proofs.lemmas.List.{get_or_default}
+use Rattle.std.specs.Option.{ok_or}
 use Rattle.heap.specs.Order.{Ordered}
 use Rattle.heap.specs.Held.{held, capacity, Foremost}
 use Rattle.heap.specs.InOrder.{InOrder}
 use Rattle.heap.specs.Answers.{Seated}
 use Rattle.heap.specs.Sifting.{Heap, Apart, Sifting}
-use Rattle.heap.specs.declared.read.Seat.{Seat}
-use Rattle.heap.specs.declared.read.Seat.TheVariants.{Outside, Free, Taken}
+use Rattle.refusal.specs.declared.Refusal.{Refusal}
+use Rattle.refusal.specs.declared.Refusal.TheVariants.{OutOfRange}
 use Rattle.heap.proofs.Gaps.{first}
 use Rattle.heap.proofs.Handles.{apart, held_at, held_none, decide, some_key}
 
@@ -65,18 +66,31 @@ module _ {K : Type 0} {handle : K → ℕ} {before : K → K → Bool} {xs : Lis
       )
 
   -- what a seat says of what is held
-  pub outside : {h : ℕ} → capacity xs ps ≤ h → Seated handle xs ps n h Outside
-  outside {h = h} high = (high, none_there handle xs n h s.fits (λ d i l e. let w = s.low d i l in let a = w.0 in let b = w.1 in let c = w.2 in omega arith))
+  pub outside : {h : ℕ} → capacity xs ps ≤ h → Seated handle xs ps n h (Err OutOfRange)
+  outside {h = h} high = (refl, high, none_there handle xs n h s.fits (λ d i l e. let w = s.low d i l in let a = w.0 in let b = w.1 in let c = w.2 in omega arith))
 
-  pub free : {h : ℕ} → h < capacity xs ps → ((d : K) (i : ℕ) → i < n → handle (get_or xs i d) ≡ h → ⊥) → Seated handle xs ps n h Free
+  pub free : {h : ℕ} → h < capacity xs ps → ((d : K) (i : ℕ) → i < n → handle (get_or xs i d) ≡ h → ⊥) → Seated handle xs ps n h (Ok None)
   free {h = h} low none = (low, none_there handle xs n h s.fits none, none)
 
-  pub taken : {h : ℕ} (i : ℕ) → h < capacity xs ps → i < n → ((d : K) → handle (get_or xs i d) ≡ h) → Seated handle xs ps n h (Taken i)
+  pub taken : {h : ℕ} (i : ℕ) → h < capacity xs ps → i < n → ((d : K) → handle (get_or xs i d) ≡ h) → Seated handle xs ps n h (Ok (Some i))
   taken {h = h} i low l is =
       let fits = s.fits in
       let there : (d : K) → held handle xs n h ≡ Some (get_or xs i d) = λ d. held_there i h d l (is d) in
       (low, l, is, there, ap is_some (there (some_key handle xs (omega arith))))
 
-  -- the seat of a handle that is known by another name
-  pub renamed : {h k : ℕ} (seat : Seat) → h ≡ k → Seated handle xs ps n h seat → Seated handle xs ps n k seat
-  renamed seat e = subst (λ x. Seated handle xs ps n x seat) e
+  -- what a view's seat says of the memory that it views, and of a handle that is known by another name
+  pub read_off : {vs : List K} {qs : List ℕ} {m h k : ℕ} {r seat : Result (Option ℕ) Refusal} → (vs ≡ xs) × (qs ≡ ps) × (m ≡ n) → h ≡ k → r ≡ seat → Seated handle vs qs m h r → Seated handle xs ps n k seat
+  read_off {qs = qs} {m = m} {h = h} {k = k} {r = r} same e is s =
+      subst (λ r. Seated handle xs ps n k r) is
+      (subst (λ h. Seated handle xs ps n h r) e
+      (subst (λ n. Seated handle xs ps n h r) same.2
+      (subst (λ ps. Seated handle xs ps m h r) same.1
+      (subst (λ xs. Seated handle xs qs m h r) same.0 s))))
+
+pub vacant : (o : Option ℕ) → is_some o ≡ false → o ≡ None
+vacant None e = refl
+vacant (Some i) e = cc
+
+pub found : (o : Option ℕ) (e : Refusal) (i : ℕ) → ok_or o e ≡ Ok i → o ≡ Some i
+found None e i h = cc
+found (Some j) e i h = cc

@@ -1,5 +1,5 @@
--- The steps of the two loops of a sift, and how each ends, with what `swap`, `earlier`, `handle_at` and `tell` ensure.
-use Rattle.std.proofs.Common.{◌≡◌, ℕ, ◌+◌, ◌-◌, ◌*◌, ◌/◌, ◌<◌, ◌≤◌, Bool, true, false, List, length, get_or, set, sym, ap, ◌∙◌, subst, ⊎_elim, arith}
+-- The steps of the two loops of a sift, and how each ends, with what `swap`, `handle_at` and `tell` ensure.
+use Rattle.std.proofs.Common.{◌≡◌, ℕ, ◌+◌, ◌-◌, ◌*◌, ◌/◌, ◌<◌, ◌≤◌, Bool, true, List, length, get_or, set, sym, ap, ◌∙◌, subst, ⊎_elim, arith}
 use Rattle.std.proofs.lemmas.List.{get_or-set_same, get_or-set_other, length-set}
 use Rattle.std.proofs.lemmas.List.Edits.{Swapped}
 use Rattle.std.proofs.lemmas.Bool.{cases_eq}
@@ -8,7 +8,7 @@ use Rattle.heap.specs.Held.{held}
 use Rattle.heap.specs.InOrder.{Low, InOrder}
 use Rattle.heap.specs.Sifting.{Gap, Over, Under, Least, next_down, Apart, Told, Fresh, Sifting}
 use Rattle.heap.proofs.Children.{Next, next_is}
-use Rattle.heap.proofs.Gaps.{turns, rises, sinks, sinks_over, closes}
+use Rattle.heap.proofs.Gaps.{rises, sinks, sinks_over, closes}
 use Rattle.heap.proofs.Handles.{apart, still_told, still_fresh, some_key, held_swap, turn}
 
 -- the key on its way goes from x to y, and the place of the key displaced is told
@@ -62,12 +62,12 @@ module _ {K : Type 0} {handle : K → ℕ} {before : K → K → Bool} (o : Orde
       let low = was.low d i l in
       (omega (arith, low.2, named d), omega arith)
 
-  -- it stays under its parent
-  pub halts : 0 < j → ((d : K) → before (get_or xs j d) (get_or xs ((j - 1) / 2) d) ≡ false) → (d : K) → Over before (λ m. get_or xs m d) j
-  halts pos t d p a b =
+  -- so can its place, for the key that has come there from i
+  pub tellable_here : (i r : ℕ) (ys : List K) → i < n → ((d : K) → get_or ys j d ≡ get_or xs i d) → ((d : K) → r ≡ handle (get_or ys j d)) → (r < length ps) × (j < 1024)
+  tellable_here i r ys l came named =
       let in' = was.inside in
-      let q : p ≡ (j - 1) / 2 = omega arith in
-      ap (λ m. before (get_or xs m d) (get_or xs j d)) q ∙ turns o _ _ (λ s. let z : j ≡ (j - 1) / 2 = are_apart d j ((j - 1) / 2) in' (omega arith) s in omega arith) (t d)
+      let few = was.few in
+      ((tellable i r l (λ d. named d ∙ ap handle (came d))).0, omega arith)
 
   next : (r : ℕ) → ((d : K) → r ≡ next_down before (λ m. get_or xs m d) n j) → (d : K) → Next before (λ m. get_or xs m d) n j r
   next r is d = next_is o (λ m. get_or xs m d) n j (are_apart d) r (is d) was.inside
@@ -82,9 +82,9 @@ module _ {K : Type 0} {handle : K → ℕ} {before : K → K → Bool} (o : Orde
       ((to d).0, (to d).1, (to d).2, λ e. (to e).3, λ e. (to e).4)
 
   -- it rests, and its place is told
-  pub rests : {qs : List ℕ} (r c : ℕ) → c ≡ j → ((d : K) → c ≡ next_down before (λ m. get_or xs m d) n j) → ((d : K) → Over before (λ m. get_or xs m d) j) → ((d : K) → r ≡ handle (get_or xs j d)) → qs ≡ set ps r j → InOrder handle before xs qs n
-  rests r c same is over named put =
-      let under : (d : K) → Under before (λ m. get_or xs m d) j n = λ d. ⊎_elim (λ w. w.1) (λ w. let z = w.0 in absurd (omega arith)) (next c is d) in
+  pub rests : {qs : List ℕ} (r : ℕ) → ((d : K) → next_down before (λ m. get_or xs m d) n j ≡ j) → ((d : K) → Over before (λ m. get_or xs m d) j) → ((d : K) → r ≡ handle (get_or xs j d)) → qs ≡ set ps r j → InOrder handle before xs qs n
+  rests r is over named put =
+      let under : (d : K) → Under before (λ m. get_or xs m d) j n = λ d. ⊎_elim (λ w. w.1) (λ w. let z = w.0 in absurd (omega arith)) (next j (λ e. sym (is e)) d) in
       subst (λ q. InOrder handle before xs q n) (sym put) (record {
         few = was.few;
         fits = was.fits;

@@ -4,8 +4,6 @@ use Rattle.std.proofs.Common.{sym, ap, subst, ◌∙◌, ⊎_elim, arith}
 use Rattle.std.proofs.lemmas.Bool.{cases_eq}
 use Rattle.std.proofs.lemmas.Bool.Decides.{nat_tests}
 use Rattle.refusal.specs.declared.Refusal.{Refusal}
-use Rattle.refusal.specs.declared.Refusal.TheVariants.{Nobody}
-use Rattle.refusal.proofs.Apart.{told_apart}
 use Rattle.job.proofs.Sizes.{size_low}
 use Rattle.discipline.specs.Meaning.{Chosen, choose_answer}
 use Rattle.heap.specs.Held.{Foremost}
@@ -78,5 +76,5 @@ module _ (m : ℕ → Option LeftKey) (left : List ℕ)
   first_chosen (Ok h) f = ap (λ (e : Entry). choose_answer (named e)) (best_one left (job h) (shortest left) (foremost_best h f) (best left))
   first_chosen (Err c) f =
       let nobody : Best left idle = λ i p. (let z : slice_index_or left i 0 ≡ 0 = at i ∙ ap left_in (f.1 i) in omega arith) in
-      ap Err (told_apart c Nobody f.0)
+      ap Err f.0
       ∙ ap (λ (e : Entry). choose_answer (named e)) (best_one left idle (shortest left) nobody (best left))

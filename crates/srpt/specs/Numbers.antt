@@ -5,8 +5,8 @@ use Rattle.std.proofs.lemmas.Bool.{eqb-true, ne_eqb}
 use Rattle.heap.specs.Held.{held}
 use Rattle.keys.specs.declared.left.LeftKey.{LeftKey}
 use Rattle.keys.specs.Orders.{number_of}
-use Rattle.srpt.specs.declared.ranking.Ranking.{Ranking}
-use Rattle.srpt.specs.Ranked.{keys_of}
+use Rattle.heap.specs.Rankings.{keys_of}
+use Rattle.srpt.specs.Ranked.{JobRanking}
 
 no_key : (k : LeftKey) → ◌≡◌ {A = Option LeftKey} None (Some k) → ⊥
 no_key k e = let z : ◌≡◌ {A = ℕ} 0 1 = cc in omega arith
@@ -31,7 +31,7 @@ not_held (x ∷ ks) (suc n) h d f =
     ap (λ b. cond b (Some x) (held number_of ks n h)) (ne_eqb x.number h (f 0 (omega arith)))
     ∙ not_held ks n h d (λ i l. f (suc i) (omega arith))
 
-pub none_above : (r : Ranking) (h : ℕ) → 1024 ≤ h → keys_of r h ≡ None
+pub none_above : (r : JobRanking) (h : ℕ) → 1024 ≤ h → keys_of r h ≡ None
 none_above r h g =
     let d : LeftKey = record { left = 0; number = 0 } in
-    not_held r.keys r.len h d (λ i l e. omega (arith, (r.low d i l).0))
+    not_held r.keys r.len h d (λ i l e. omega (arith, (r.order.low d i l).0))

@@ -1,7 +1,7 @@
 use Rattle.std.proofs.Common.{◌≡◌, ltb, ◌∙◌, arith}
 use Rattle.std.proofs.lemmas.List.Sums.{count_by-le-length}
 use Rattle.discipline.specs.Meaning.{count_present}
-use Rattle.srpt.specs.Ranked.{keys_of}
+use Rattle.heap.specs.Rankings.{keys_of}
 use Rattle.srpt.specs.Lefts.{lefts_of}
 use Rattle.srpt.specs.Tables.{table_long, table_count}
 use Rattle.srpt.proofs.srpt.Srpt.how_many.Goals as goal

@@ -1,4 +1,4 @@
-use Rattle.srpt.specs.Ranked.{keys_of}
+use Rattle.heap.specs.Rankings.{keys_of}
 use Rattle.srpt.specs.Lefts.{lefts_of}
 use Rattle.srpt.specs.Numbers.{own_number}
 use Rattle.srpt.specs.Choosing.{first_chosen}
