@@ -14,16 +14,7 @@ use Rattle.heap.proofs.Handles.{apart, still_told, still_fresh, some_key, held_s
 -- the key on its way goes from x to y, and the place of the key displaced is told
 module _ {K : Type 0} {handle : K → ℕ} {before : K → K → Bool} {xs : List K} {ps : List ℕ} {n x : ℕ} (was : Sifting handle before xs ps n x) (ys : List K) (y r : ℕ) (iny : y < n) (xy : x ≡ y → ⊥) (long : length ys ≡ length xs) (s : (d : K) → Swapped (λ m. get_or xs m d) (λ m. get_or ys m d) x y) (told : (d : K) → r ≡ handle (get_or ys x d)) where
   step_low : (d : K) (i : ℕ) → i < n → Low ys (set ps r x) (handle (get_or ys i d))
-  step_low d i a =
-      let wide = length-set ps r x in
-      let back : (k : K) → get_or ys i d ≡ k → Low xs ps (handle k) → Low ys (set ps r x) (handle (get_or ys i d)) = λ k e l. let z = ap handle e in (omega (arith, l.0), omega (arith, l.1), omega (arith, l.2)) in
-      ⊎_elim
-      (λ (q : i ≡ x). back (get_or xs y d) (ap (λ m. get_or ys m d) q ∙ (s d).0) (was.low d y iny))
-      (λ u. ⊎_elim
-      (λ (q : i ≡ y). back (get_or xs x d) (ap (λ m. get_or ys m d) q ∙ (s d).1) (was.low d x was.inside))
-      (λ v. back (get_or xs i d) ((s d).2 i u v) (was.low d i a))
-      (cases_eq i y))
-      (cases_eq i x)
+  step_low d i a = let wide = length-set ps r x in grind (arith, cases_eq i x, cases_eq i y, was.low d y, was.low d x, was.low d i, (s d).2 i)
 
   step_told : (d : K) → Told handle (λ i. get_or ys i d) (set ps r x) n y
   step_told d = subst (λ t. Told handle (λ i. get_or ys i d) (set ps t x) n y) (sym (told d))
@@ -89,10 +80,7 @@ module _ {K : Type 0} {handle : K → ℕ} {before : K → K → Bool} (o : Orde
         few = was.few;
         fits = was.fits;
         low = λ d i a. let l = was.low d i a in let z = length-set ps r j in (l.0, l.1, omega (arith, l.2));
-        told = λ d i a. ⊎_elim
-            (λ (q : i ≡ j). ap (λ m. get_or (set ps r j) m 0) (ap (λ m. handle (get_or xs m d)) q ∙ sym (named d)) ∙ get_or-set_same ps r j 0 (let l = was.low d j was.inside in omega (arith, l.2, named d)) ∙ sym q)
-            (λ u. get_or-set_other ps r (handle (get_or xs i d)) j 0 (λ e. was.fresh d i a u (e ∙ named d)) ∙ was.told d i a u)
-            (cases_eq i j);
+        told = λ d i a. let low = was.low d j was.inside in grind (arith, cases_eq i j, named d, was.fresh d i, was.told d i, get_or-set_same ps r j 0, get_or-set_other ps r (handle (get_or xs i d)) j 0);
         heaped = λ d k e. closes o (λ m. get_or xs m d) j n (was.gap d) (over d) (under d) (k / 2) (k + 1) (omega arith) (omega arith) e;
       })
 

@@ -26,8 +26,8 @@ pub least_chosen : (left : List ℕ) → Chosen left (least left)
 least_chosen left = chosen_if_best left (shortest left) (best left)
 
 named_job : (e : Entry) (j : ℕ) → named e ≡ Some j → e ≡ job j
-named_job (job i) j h = let f : i ≡ j = cc in ap job f
-named_job idle j h = let z : ◌≡◌ {A = ℕ} 0 1 = cc in absurd (omega arith)
+named_job (job i) j h = cc
+named_job idle j h = cc
 
 -- A job that is chosen has the least left work of those present.
 pub least_best : (left : List ℕ) (j : ℕ) → least left ≡ Some j → Best left (job j)

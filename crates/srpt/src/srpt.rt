@@ -26,27 +26,12 @@ impl Srpt {
     ghost use Rattle.srpt.specs.Choice.{least};
 
     // SRPT with nobody present. Never refused; all the memory that it ever needs is part of it.
+    #[tactic(auto, using(crate::specs::Jobs::nobody_held))]
     pub fn new() -> Srpt
         ensures nobody { lefts_of result ≡ replicate 1024 0 }
     {
-        Srpt::over(Ranking::new(LeftKey { left: 0, number: 0 }))
-    }
-
-    // Nobody is present where the ranking holds nothing.
-    #[tactic(auto, using(crate::specs::Jobs::nobody_held))]
-    fn over(ranking: Ranking<LeftKey>) -> Srpt
-        requires { SameKeys (keys_of ranking) nothing }
-        ensures { lefts_of result ≡ replicate 1024 0 }
-    {
+        let ranking = Ranking::new(LeftKey { left: 0, number: 0 });
         Srpt { ranking }
-    }
-
-    // Nobody is present once the ranking holds nothing.
-    #[tactic(auto, using(crate::specs::Jobs::nobody_held))]
-    fn let_all_go(&mut self)
-        ensures { lefts_of self.new ≡ replicate 1024 0 }
-    {
-        self.ranking.clear();
     }
 
     // A job that is not present gets a key with its size as its left work.
@@ -80,27 +65,12 @@ impl Srpt {
         };
     }
 
-    // The foremost key of the ranking is that of the job with the least left work.
-    fn shortest_job(&self) -> Result<u32, Refusal>
-        ensures { result ≡ choose_answer (least (lefts_of self.now)) }
-    {
-        self.ranking.first()
-    }
-
     // The left work of a job, 0 for one that is not present.
     #[tactic(auto, using(crate::specs::Jobs::left_of_key))]
     fn left_at(&self, number: u32) -> u32
         ensures { result ≡ slice_index (lefts_of self.now) number }
     {
         self.ranking.get(number).map_or(0, |key| key.left)
-    }
-
-    // As many are present as the ranking holds keys.
-    fn how_many(&self) -> usize
-        ensures few { result ≤ 1024 }
-        ensures counts { result ≡ count_present (lefts_of self.now) }
-    {
-        self.ranking.count()
     }
 }
 
@@ -116,8 +86,9 @@ impl Discipline for Srpt {
     ghost sound = { least_sound };
 
     // Lets everybody go. Never refused; one step.
+    #[tactic(auto, using(crate::specs::Jobs::nobody_held))]
     fn clear(&mut self) {
-        self.let_all_go();
+        self.ranking.clear();
     }
 
     // Job `number` is present from now on, with `size` units left. Refused, in this order: with `OutOfRange` for a number
@@ -133,8 +104,9 @@ impl Discipline for Srpt {
     }
 
     // The present job with the least left work, the smallest number of equals. Refused with `Nobody` where nobody is present. One step.
+    #[tactic(auto, using(crate::specs::Choosing::first_chosen, crate::specs::Jobs::left_of_key, crate::specs::Numbers::own_number))]
     fn choose(&self) -> Result<u32, Refusal> {
-        self.shortest_job()
+        self.ranking.first()
     }
 
     // One unit of work is done on job `number`; answers what is left, and without any left the job is no longer present.
@@ -160,7 +132,8 @@ impl Discipline for Srpt {
     }
 
     // How many jobs are present. Never refused; one step.
+    #[tactic(auto, using(crate::specs::Jobs::present_counted, crate::specs::Jobs::present_few))]
     fn count(&self) -> u32 {
-        self.how_many() as u32
+        self.ranking.count() as u32
     }
 }

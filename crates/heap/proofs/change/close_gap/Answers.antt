@@ -20,4 +20,4 @@ returns-then-at-last-clause-holds g c =
     λ x is h. c.settle.ensures.holds h ∙ edits.fill_held g.met.K.Key.order c.requires.order c.args.last refl c.args.at key below last x is h
 
 pub returns-else-at-last-clause-holds : goal.returns-else-at-last-clause-holds
-returns-else-at-last-clause-holds g c = λ x is. edits.drop-held c.requires.order c.args.last refl x (λ d. ap (λ i. g.K.Key.handle_of (get_or c.args.keys.now i d)) (sym c.if-at-last.false) ∙ is d)
+returns-else-at-last-clause-holds g c = λ x is. edits.drop_held c.requires.order c.args.last refl x (λ d. ap (λ i. g.K.Key.handle_of (get_or c.args.keys.now i d)) (sym c.if-at-last.false) ∙ is d)

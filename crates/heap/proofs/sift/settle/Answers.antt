@@ -2,6 +2,13 @@ use Rattle.std.proofs.Common.{◌∙◌, arith}
 use Rattle.heap.proofs.Steps as steps
 use Rattle.heap.proofs.sift.settle.Goals as goal
 
+pub tell-requires : goal.tell-requires
+tell-requires g c =
+    let was = c.loop-up.invariant.sifts in
+    let up = c.in-Some.ensures in
+    let inside = was.inside in
+    steps.tellable_here g.met.K.Key.order was c.in-Some.up c.handle_at-lowered.result c.swap.new.self (omega arith) c.swap.ensures.by_index.0 c.handle_at-lowered.ensures
+
 pub loop-up-preserved : goal.loop-up-preserved
 loop-up-preserved g c =
     let l = c.loop-up in
