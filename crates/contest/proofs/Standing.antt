@@ -13,7 +13,7 @@ use Rattle.run.specs.Histories.{Event, Step}
 use Rattle.schedule.specs.Schedules.{Schedule, Legal, NonIdling}
 use Rattle.schedule.specs.Occupancy.{occupancy}
 use Rattle.srpt.specs.declared.srpt.Srpt.{Srpt}
-use Rattle.srpt.specs.contracts.srpt_calls.SrptDiscipline.TheImpl.{ghosts}
+use Rattle.srpt.specs.contracts.srpt.SrptDiscipline.TheImpl.{ghosts}
 use Rattle.srpt.specs.Jobs.{least_sound}
 use Rattle.srpt.specs.Choosing.{least_best}
 use Rattle.contest.specs.declared.calls.Call.{Call}

@@ -9,7 +9,7 @@ use Rattle.run.specs.Histories.{Event}
 use Rattle.schedule.specs.Schedules.{Schedule, Legal}
 use Rattle.schedule.specs.Occupancy.{occupancy}
 use Rattle.srpt.specs.declared.srpt.Srpt.{Srpt}
-use Rattle.srpt.specs.contracts.srpt_calls.SrptDiscipline.TheImpl.{ghosts}
+use Rattle.srpt.specs.contracts.srpt.SrptDiscipline.TheImpl.{ghosts}
 use Rattle.contest.specs.declared.calls.Call.{Call}
 use Rattle.contest.specs.declared.calls.Round.{Round}
 use Rattle.contest.specs.declared.pair.Pair.{Pair}

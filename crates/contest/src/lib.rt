@@ -1,7 +1,7 @@
 // Two runs of one list of calls, one of them over SRPT: the theorem that no order keeps fewer jobs present, and a call that shows it.
 #![tactic(auto)]
 
-ghost use Rattle.srpt.specs.contracts.srpt_calls.SrptDiscipline.TheImpl.{ghosts};
+ghost use Rattle.srpt.specs.contracts.srpt.SrptDiscipline.TheImpl.{ghosts};
 ghost use Rattle.contest.specs.Comparison.{RunsFaithful, RunsCompared};
 
 pub mod calls;

@@ -1,9 +1,9 @@
 -- Which child of a key comes first, and whether the key goes down to it.
-use Rattle.std.proofs.Common.{◌≡◌, ℕ, ◌+◌, ◌*◌, ◌<◌, ◌≤◌, Bool, true, false, ◌⊎◌, sym, refl, ap, ◌∙◌, subst, inl, inr, ⊎_elim, arith}
-use Rattle.std.proofs.lemmas.Bool.{cases_eq, cases_lt, cases_Bool, lt-ltb, le-ltb, cond-true, cond-false}
+use Rattle.std.proofs.Common.{◌≡◌, ℕ, ◌+◌, ◌*◌, ◌<◌, ◌≤◌, Bool, true, false, ◌⊎◌, sym, refl, ◌∙◌, subst, inl, inr, ⊎_elim, arith}
+use Rattle.std.proofs.lemmas.Bool.{cases_lt, cases_Bool, lt-ltb, le-ltb, cond-true, cond-false}
+use Rattle.std.proofs.lemmas.Bool.Decides.{nat_tests}
 use Rattle.heap.specs.Order.{Ordered}
 use Rattle.heap.specs.Sifting.{Under, Least, first_child, next_down, Apart}
-use Rattle.heap.proofs.Gaps.{turns}
 
 -- The key at j stays, before its children, or r is the child that comes before the other and before the key.
 abbrev pub Next : {K : Type 0} → (K → K → Bool) → (ℕ → K) → ℕ → ℕ → ℕ → Type 0
@@ -11,37 +11,18 @@ Next before f n j r = ((r ≡ j) × Under before f j n) ⊎ ((j * 2 + 1 ≤ r) �
 
 module _ {K : Type 0} {handle : K → ℕ} {before : K → K → Bool} (o : Ordered handle before) (f : ℕ → K) (n j : ℕ) (distinct : Apart handle f n) where
   left_first : j * 2 + 1 < n → (j * 2 + 2 < n → before (f (j * 2 + 2)) (f (j * 2 + 1)) ≡ false) → Least before f j (j * 2 + 1) n
-  left_first l t k a b e u =
-      let q : k ≡ j * 2 + 2 = omega arith in
-      turns o _ _ (λ s. u (distinct k (j * 2 + 1) e l s)) (ap (λ m. before (f m) (f (j * 2 + 1))) q ∙ t (omega arith))
+  left_first l t k a b e u = grind (arith, o.one, distinct k (j * 2 + 1))
 
   right_first : before (f (j * 2 + 2)) (f (j * 2 + 1)) ≡ true → Least before f j (j * 2 + 2) n
-  right_first t k a b e u =
-      let q : k ≡ j * 2 + 1 = omega arith in
-      ap (λ m. before (f (j * 2 + 2)) (f m)) q ∙ t
+  right_first t k a b e u = grind arith
 
   -- the first child is a child, and comes before the other
   first_child_lem : (c : ℕ) → c ≡ first_child before f n j → j * 2 + 1 < n → (j * 2 + 1 ≤ c) × (c ≤ j * 2 + 2) × (c < n) × Least before f j c n
-  first_child_lem c is l =
-      let left : c ≡ j * 2 + 1 → (j * 2 + 2 < n → before (f (j * 2 + 2)) (f (j * 2 + 1)) ≡ false) → (j * 2 + 1 ≤ c) × (c ≤ j * 2 + 2) × (c < n) × Least before f j c n =
-      λ e t. subst (λ c. (j * 2 + 1 ≤ c) × (c ≤ j * 2 + 2) × (c < n) × Least before f j c n) (sym e) (omega arith, omega arith, l, left_first l t) in
-      ⊎_elim
-      (λ (two : j * 2 + 2 < n). let c2 = is ∙ cond-true _ _ _ (lt-ltb (j * 2 + 2) n two) in ⊎_elim
-      (λ (t : before (f (j * 2 + 2)) (f (j * 2 + 1)) ≡ true). subst (λ c. (j * 2 + 1 ≤ c) × (c ≤ j * 2 + 2) × (c < n) × Least before f j c n) (sym (c2 ∙ cond-true _ _ _ t)) (omega arith, omega arith, two, right_first t))
-      (λ (t : before (f (j * 2 + 2)) (f (j * 2 + 1)) ≡ false). left (c2 ∙ cond-false _ _ _ t) (λ _. t))
-      (cases_Bool (before (f (j * 2 + 2)) (f (j * 2 + 1)))))
-      (λ (one : n ≤ j * 2 + 2). left (is ∙ cond-false _ _ _ (le-ltb (j * 2 + 2) n one)) (λ two. absurd (omega arith)))
-      (cases_lt (j * 2 + 2) n)
+  first_child_lem c is l = grind (arith, nat_tests, left_first)
 
   -- where its first child c does not come before it, the key at j comes before both
   stays : (c : ℕ) → (j * 2 + 1 ≤ c) × (c ≤ j * 2 + 2) × (c < n) × Least before f j c n → j < n → before (f c) (f j) ≡ false → Under before f j n
-  stays c is lj t k a b e =
-      let down = is.0 in
-      let above = turns o _ _ (λ s. let z : c ≡ j = distinct c j is.2 lj s in omega arith) t in
-      ⊎_elim
-      (λ (q : k ≡ c). ap (λ m. before (f j) (f m)) q ∙ above)
-      (λ u. o.chain _ _ _ above (is.3 k a b e u))
-      (cases_eq k c)
+  stays c is lj t k a b e = grind (arith, o.one, o.chain, distinct c j, is.3 k)
 
   pub next_is : (r : ℕ) → r ≡ next_down before f n j → j < n → Next before f n j r
   next_is r is lj = ⊎_elim

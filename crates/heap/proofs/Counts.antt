@@ -1,5 +1,5 @@
 -- How the number of held keys changes.
-use Rattle.std.proofs.Common.{◌≡◌, ℕ, zero, suc, ◌+◌, ◌<◌, ◌≤◌, Bool, true, false, cond, List, length, get_or, is_some, Option, sym, refl, ap, ◌∙◌, ⊎_elim, arith}
+use Rattle.std.proofs.Common.{◌≡◌, ℕ, zero, suc, ◌+◌, ◌<◌, ◌≤◌, Bool, true, false, List, length, get_or, is_some, Option, sym, refl, ap, ◌∙◌, ⊎_elim, arith}
 use Rattle.std.proofs.lemmas.Bool.{cases_eq}
 use Rattle.heap.specs.Held.{counted, held}
 use Rattle.heap.specs.InOrder.{InOrder}
@@ -12,26 +12,18 @@ module _ {K : Type 0} (m p : ℕ → Option K) where
   pub counted_same : (c : ℕ) → ((h : ℕ) → h < c → is_some (p h) ≡ is_some (m h)) → counted p c ≡ counted m c
   unfolding counted
   counted_same zero e = refl
-  counted_same (suc c) e = let r = counted_same c (λ h l. e h (omega arith)) in let t = ap (λ b. cond {A = ℕ} b 1 0) (e c (omega arith)) in omega arith
+  counted_same (suc c) e = grind (arith, counted_same c (λ h l. e h (omega arith)), e c)
 
   -- one handle more
   pub counted_more : (c x : ℕ) → x < c → is_some (m x) ≡ false → is_some (p x) ≡ true → ((h : ℕ) → (h ≡ x → ⊥) → is_some (p h) ≡ is_some (m h)) → counted p c ≡ counted m c + 1
   unfolding counted
   counted_more zero x l f t e = absurd (omega arith)
-  counted_more (suc c) x l f t e = ⊎_elim
-      (λ (q : c ≡ x).
-      let r = counted_same c (λ h a. e h (omega arith)) in
-      let u = ap (λ b. cond {A = ℕ} b 1 0) (ap (λ i. is_some (m i)) q ∙ f) in
-      let v = ap (λ b. cond {A = ℕ} b 1 0) (ap (λ i. is_some (p i)) q ∙ t) in omega arith)
-      (λ n.
-      let r = counted_more c x (omega arith) f t e in
-      let u = ap (λ b. cond {A = ℕ} b 1 0) (e c n) in omega arith)
-      (cases_eq c x)
+  counted_more (suc c) x l f t e = grind (arith, cases_eq c x, e c, counted_more c x, counted_same c)
 
 counted_none : {K : Type 0} (m : ℕ → Option K) (c : ℕ) → ((h : ℕ) → is_some (m h) ≡ false) → counted m c ≡ 0
 unfolding counted
 counted_none m zero e = refl
-counted_none m (suc c) e = let r = counted_none m c e in let t = ap (λ b. cond {A = ℕ} b 1 0) (e c) in omega arith
+counted_none m (suc c) e = grind (arith, counted_none m c e, e c)
 
 module _ {K : Type 0} (handle : K → ℕ) (xs : List K) (d : K) (c : ℕ) where
   pub counted_all : (n : ℕ) → n ≤ length xs → Apart handle (λ m. get_or xs m d) n → ((i : ℕ) → i < n → handle (get_or xs i d) < c) → counted (held handle xs n) c ≡ n

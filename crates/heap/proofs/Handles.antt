@@ -1,75 +1,53 @@
 -- Handles, told places, and which key is held at a handle.
-use Rattle.std.proofs.Common.{◌≡◌, ℕ, zero, suc, ◌<◌, ◌≤◌, cond, ◌⊎◌, List, [], ◌∷◌, length, get_or, set, Some, None, sym, refl, ap, ◌∙◌, subst, inl, inr, ⊎_elim, arith}
+use Rattle.std.proofs.Common.{◌≡◌, ℕ, zero, suc, ◌<◌, ◌≤◌, ◌⊎◌, List, [], ◌∷◌, length, get_or, set, Some, None, sym, refl, ◌∙◌, arith}
 use Rattle.std.proofs.lemmas.List.{get_or-set_same, get_or-set_other}
 use Rattle.std.proofs.lemmas.List.Edits.{Swapped}
-use Rattle.std.proofs.lemmas.Bool.{cases_eq, eq-eqb, ne_eqb}
+use Rattle.std.proofs.lemmas.Bool.{cases_eq}
+use Rattle.std.proofs.lemmas.Bool.Decides.{nat_tests}
 use Rattle.heap.specs.Held.{held}
 use Rattle.heap.specs.Sifting.{Apart, Told, Fresh}
 
 module _ {K : Type 0} (handle : K → ℕ) where
   pub apart : (f : ℕ → K) (places : List ℕ) (n j : ℕ) → Told handle f places n j → Fresh handle f n j → (i k : ℕ) → i < n → k < n → handle (f i) ≡ handle (f k) → i ≡ k
-  apart f places n j told fresh i k a b e = ⊎_elim
-      (λ (p : i ≡ j). ⊎_elim (λ (q : k ≡ j). p ∙ sym q) (λ v. absurd (fresh k b v (sym e ∙ ap (λ m. handle (f m)) p))) (cases_eq k j))
-      (λ u. ⊎_elim (λ (q : k ≡ j). absurd (fresh i a u (e ∙ ap (λ m. handle (f m)) q))) (λ v. sym (told i a u) ∙ ap (λ h. get_or places h 0) e ∙ told k b v) (cases_eq k j))
-      (cases_eq i j)
+  apart f places n j told fresh i k a b e = grind (arith, told i, told k, fresh i, fresh k)
 
   -- the key in question goes from x to y, and the place of the one that was at y is told
   module _ (f g : ℕ → K) (places : List ℕ) (n x y : ℕ) (inx : x < n) (iny : y < n) (xy : x ≡ y → ⊥) (gx : g x ≡ f y) (gy : g y ≡ f x) (rest : (m : ℕ) → (m ≡ x → ⊥) → (m ≡ y → ⊥) → g m ≡ f m) (told : Told handle f places n x) (fresh : Fresh handle f n x) where
     pub still_fresh : Fresh handle g n y
-    still_fresh i a u e = ⊎_elim
-        (λ (q : i ≡ x). fresh y iny (λ z. xy (sym z)) (sym (ap handle (ap g q ∙ gx)) ∙ e ∙ ap handle gy))
-        (λ w. fresh i a w (sym (ap handle (rest i w u)) ∙ e ∙ ap handle gy))
-        (cases_eq i x)
+    still_fresh i a u e = grind (arith, rest i, fresh y, fresh i, cases_eq i x)
 
     pub still_told : handle (f y) < length places → Told handle g (set places (handle (g x)) x) n y
-    still_told wide i a u = ⊎_elim
-        (λ (q : i ≡ x). ap (λ m. get_or (set places (handle (g x)) x) (handle (g m)) 0) q ∙ get_or-set_same places (handle (g x)) x 0 (subst (λ h. h < length places) (sym (ap handle gx)) wide) ∙ sym q)
-        (λ w. get_or-set_other places (handle (g x)) (handle (g i)) x 0
-        (λ e. u (apart f places n x told fresh i y a iny (sym (ap handle (rest i w u)) ∙ e ∙ ap handle gx)))
-        ∙ ap (λ k. get_or places (handle k) 0) (rest i w u) ∙ told i a w)
-        (cases_eq i x)
+    still_told wide i a u = grind (arith, cases_eq i x, rest i, told i, apart f places n x told fresh i y, get_or-set_same places (handle (g x)) x 0, get_or-set_other places (handle (g x)) (handle (g i)) x 0)
 
   -- what is held
   held_found : (ks : List K) (n i : ℕ) (d : K) (h : ℕ) → i < n → n ≤ length ks → handle (get_or ks i d) ≡ h → ((j : ℕ) → j < i → handle (get_or ks j d) ≡ h → ⊥) → held handle ks n h ≡ Some (get_or ks i d)
   held_found [] n i d h a b e u = absurd (omega arith)
   held_found (k ∷ ks) zero i d h a b e u = absurd (omega arith)
-  held_found (k ∷ ks) (suc n) zero d h a b e u = ap (λ t. cond t (Some k) (held handle ks n h)) (eq-eqb (handle k) h e)
-  held_found (k ∷ ks) (suc n) (suc i) d h a b e u = ap (λ t. cond t (Some k) (held handle ks n h)) (ne_eqb (handle k) h (u 0 (omega arith))) ∙ held_found ks n i d h (omega arith) (omega arith) e (λ j l. u (suc j) (omega arith))
+  held_found (k ∷ ks) (suc n) zero d h a b e u = grind (arith, nat_tests)
+  held_found (k ∷ ks) (suc n) (suc i) d h a b e u = grind (arith, nat_tests, u 0, held_found ks n i d h (omega arith) (omega arith) e (λ j l. u (suc j) (omega arith)))
 
   pub held_none : (ks : List K) (n : ℕ) (d : K) (h : ℕ) → n ≤ length ks → ((j : ℕ) → j < n → handle (get_or ks j d) ≡ h → ⊥) → held handle ks n h ≡ None
   held_none ks zero d h b u = refl
   held_none [] (suc n) d h b u = refl
-  held_none (k ∷ ks) (suc n) d h b u = ap (λ t. cond t (Some k) (held handle ks n h)) (ne_eqb (handle k) h (u 0 (omega arith))) ∙ held_none ks n d h (omega arith) (λ j l. u (suc j) (omega arith))
+  held_none (k ∷ ks) (suc n) d h b u = grind (arith, nat_tests, u 0, held_none ks n d h (omega arith) (λ j l. u (suc j) (omega arith)))
 
   pub held_at : (ks : List K) (n i : ℕ) (d : K) (h : ℕ) → i < n → n ≤ length ks → Apart handle (λ m. get_or ks m d) n → handle (get_or ks i d) ≡ h → held handle ks n h ≡ Some (get_or ks i d)
   held_at ks n i d h a b u e = held_found ks n i d h a b e (λ j l z. let q : j ≡ i = u j i (omega arith) a (z ∙ sym e) in omega arith)
 
   pub decide : (f : ℕ → ℕ) (h n : ℕ) → ((i : ℕ) × (i < n) × (f i ≡ h)) ⊎ ((i : ℕ) → i < n → f i ≡ h → ⊥)
-  decide f h zero = inr (λ i a. absurd (omega arith))
-  decide f h (suc n) = ⊎_elim
-      (λ e. inl (n, omega arith, e))
-      (λ w. ⊎_elim
-      (λ t. let below = t.1 in inl (t.0, omega arith, t.2))
-      (λ z. inr (λ i a e. ⊎_elim (λ (q : i ≡ n). w (sym (ap f q) ∙ e)) (λ v. z i (omega arith) e) (cases_eq i n)))
-      (decide f h n))
-      (cases_eq (f n) h)
+  decide f h zero = grind arith
+  decide f h (suc n) = grind (arith, decide f h n, cases_eq (f n) h)
 
   -- two heaps hold the same key at h
   pub held_alike : (xs ys : List K) (n m : ℕ) (d : K) (h : ℕ) → n ≤ length xs → m ≤ length ys → Apart handle (λ i. get_or xs i d) n → Apart handle (λ i. get_or ys i d) m
       → ((i : ℕ) → i < n → handle (get_or xs i d) ≡ h → (j : ℕ) × (j < m) × (get_or ys j d ≡ get_or xs i d))
       → ((j : ℕ) → j < m → handle (get_or ys j d) ≡ h → (i : ℕ) × (i < n) × (get_or xs i d ≡ get_or ys j d))
       → held handle ys m h ≡ held handle xs n h
-  held_alike xs ys n m d h lx ly ax ay to from = ⊎_elim
-      (λ t. let j = to t.0 t.1 t.2 in held_at ys m j.0 d h j.1 ly ay (ap handle j.2 ∙ t.2) ∙ ap Some j.2 ∙ sym (held_at xs n t.0 d h t.1 lx ax t.2))
-      (λ none. held_none ys m d h ly (λ j l e. let i = from j l e in none i.0 i.1 (ap handle i.2 ∙ e)) ∙ sym (held_none xs n d h lx none))
-      (decide (λ i. handle (get_or xs i d)) h n)
+  held_alike xs ys n m d h lx ly ax ay to from = grind (arith, decide (λ i. handle (get_or xs i d)) h n, to, from, held_at ys m, held_at xs n, held_none ys m d h, held_none xs n d h)
 
   -- after an exchange every key is among the first n as before
   swap_there : (f g : ℕ → K) (n a b : ℕ) → a < n → b < n → Swapped f g a b → (i : ℕ) → i < n → (m : ℕ) × (m < n) × (g m ≡ f i)
-  swap_there f g n a b la lb s = λ i l. ⊎_elim
-      (λ (q : i ≡ a). (b, lb, s.1 ∙ ap f (sym q)))
-      (λ u. ⊎_elim (λ (q : i ≡ b). (a, la, s.0 ∙ ap f (sym q))) (λ v. (i, l, s.2 i u v)) (cases_eq i b))
-      (cases_eq i a)
+  swap_there f g n a b la lb s = λ i l. grind (arith, cases_eq i a, cases_eq i b, s.2 i)
 
   flip : (f g : ℕ → K) (a b : ℕ) → Swapped f g a b → Swapped g f a b
   flip f g a b s = (sym s.1, sym s.0, λ m u v. sym (s.2 m u v))

@@ -1,6 +1,6 @@
 mod Gaps
 mod Children
-mod Handles
+pub mod Handles
 mod Steps
 mod Reading
 mod Pigeons

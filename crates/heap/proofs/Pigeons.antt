@@ -13,14 +13,8 @@ packs_more c packs n f low inj i l e =
     let to : ℕ → ℕ = λ m. cond (eqb m i) (n - 1) m in
     let at_i : (m : ℕ) → m ≡ i → to m ≡ n - 1 = λ m q. ap (λ t. cond t (n - 1) m) (eq-eqb m i q) in
     let off-i : (m : ℕ) → (m ≡ i → ⊥) → to m ≡ m = λ m q. ap (λ t. cond t (n - 1) m) (ne_eqb m i q) in
-    let in' : (m : ℕ) → m < n - 1 → (to m < n) × (to m ≡ i → ⊥) = λ m a. ⊎_elim
-    (λ (q : m ≡ i). let z = at_i m q in (omega arith, omega arith))
-    (λ u. let z = off-i m u in (omega arith, omega arith))
-    (cases_eq m i) in
-    let one : (m k : ℕ) → m < n - 1 → k < n - 1 → to m ≡ to k → m ≡ k = λ m k a b s. ⊎_elim
-    (λ (p : m ≡ i). ⊎_elim (λ (q : k ≡ i). p ∙ sym q) (λ v. let x = at_i m p in let y = off-i k v in absurd (omega arith)) (cases_eq k i))
-    (λ u. ⊎_elim (λ (q : k ≡ i). let x = off-i m u in let y = at_i k q in absurd (omega arith)) (λ v. sym (off-i m u) ∙ s ∙ off-i k v) (cases_eq k i))
-    (cases_eq m i) in
+    let in' : (m : ℕ) → m < n - 1 → (to m < n) × (to m ≡ i → ⊥) = λ m a. grind (arith, cases_eq m i, at_i m, off-i m) in
+    let one : (m k : ℕ) → m < n - 1 → k < n - 1 → to m ≡ to k → m ≡ k = λ m k a b s. grind (arith, cases_eq m i, cases_eq k i, at_i m, off-i m, at_i k, off-i k) in
     let le = packs (n - 1) (λ m. f (to m))
     (λ m a. let lt = low (to m) (in' m a).0 in let ne : f (to m) ≡ c → ⊥ = λ z. (in' m a).1 (inj (to m) i (in' m a).0 l (z ∙ sym e)) in omega arith)
     (λ m k a b s. one m k a b (inj (to m) (to k) (in' m a).0 (in' k b).0 s)) in

@@ -1,5 +1,5 @@
--- The steps of the two loops of a sift, and how each ends, with what `swap`, `earlier`, `handle_at` and `tell` ensure.
-use Rattle.std.proofs.Common.{◌≡◌, ℕ, ◌+◌, ◌-◌, ◌*◌, ◌/◌, ◌<◌, ◌≤◌, Bool, true, false, List, length, get_or, set, sym, ap, ◌∙◌, subst, ⊎_elim, arith}
+-- The steps of the two loops of a sift, and how each ends, with what `swap`, `handle_at` and `tell` ensure.
+use Rattle.std.proofs.Common.{◌≡◌, ℕ, ◌+◌, ◌-◌, ◌*◌, ◌/◌, ◌<◌, ◌≤◌, Bool, true, List, length, get_or, set, sym, ap, ◌∙◌, subst, ⊎_elim, arith}
 use Rattle.std.proofs.lemmas.List.{get_or-set_same, get_or-set_other, length-set}
 use Rattle.std.proofs.lemmas.List.Edits.{Swapped}
 use Rattle.std.proofs.lemmas.Bool.{cases_eq}
@@ -8,22 +8,13 @@ use Rattle.heap.specs.Held.{held}
 use Rattle.heap.specs.InOrder.{Low, InOrder}
 use Rattle.heap.specs.Sifting.{Gap, Over, Under, Least, next_down, Apart, Told, Fresh, Sifting}
 use Rattle.heap.proofs.Children.{Next, next_is}
-use Rattle.heap.proofs.Gaps.{turns, rises, sinks, sinks_over, closes}
+use Rattle.heap.proofs.Gaps.{rises, sinks, sinks_over, closes}
 use Rattle.heap.proofs.Handles.{apart, still_told, still_fresh, some_key, held_swap, turn}
 
 -- the key on its way goes from x to y, and the place of the key displaced is told
 module _ {K : Type 0} {handle : K → ℕ} {before : K → K → Bool} {xs : List K} {ps : List ℕ} {n x : ℕ} (was : Sifting handle before xs ps n x) (ys : List K) (y r : ℕ) (iny : y < n) (xy : x ≡ y → ⊥) (long : length ys ≡ length xs) (s : (d : K) → Swapped (λ m. get_or xs m d) (λ m. get_or ys m d) x y) (told : (d : K) → r ≡ handle (get_or ys x d)) where
   step_low : (d : K) (i : ℕ) → i < n → Low ys (set ps r x) (handle (get_or ys i d))
-  step_low d i a =
-      let wide = length-set ps r x in
-      let back : (k : K) → get_or ys i d ≡ k → Low xs ps (handle k) → Low ys (set ps r x) (handle (get_or ys i d)) = λ k e l. let z = ap handle e in (omega (arith, l.0), omega (arith, l.1), omega (arith, l.2)) in
-      ⊎_elim
-      (λ (q : i ≡ x). back (get_or xs y d) (ap (λ m. get_or ys m d) q ∙ (s d).0) (was.low d y iny))
-      (λ u. ⊎_elim
-      (λ (q : i ≡ y). back (get_or xs x d) (ap (λ m. get_or ys m d) q ∙ (s d).1) (was.low d x was.inside))
-      (λ v. back (get_or xs i d) ((s d).2 i u v) (was.low d i a))
-      (cases_eq i y))
-      (cases_eq i x)
+  step_low d i a = let wide = length-set ps r x in grind (arith, cases_eq i x, cases_eq i y, was.low d y, was.low d x, was.low d i, (s d).2 i)
 
   step_told : (d : K) → Told handle (λ i. get_or ys i d) (set ps r x) n y
   step_told d = subst (λ t. Told handle (λ i. get_or ys i d) (set ps t x) n y) (sym (told d))
@@ -62,12 +53,12 @@ module _ {K : Type 0} {handle : K → ℕ} {before : K → K → Bool} (o : Orde
       let low = was.low d i l in
       (omega (arith, low.2, named d), omega arith)
 
-  -- it stays under its parent
-  pub halts : 0 < j → ((d : K) → before (get_or xs j d) (get_or xs ((j - 1) / 2) d) ≡ false) → (d : K) → Over before (λ m. get_or xs m d) j
-  halts pos t d p a b =
+  -- so can its place, for the key that has come there from i
+  pub tellable_here : (i r : ℕ) (ys : List K) → i < n → ((d : K) → get_or ys j d ≡ get_or xs i d) → ((d : K) → r ≡ handle (get_or ys j d)) → (r < length ps) × (j < 1024)
+  tellable_here i r ys l came named =
       let in' = was.inside in
-      let q : p ≡ (j - 1) / 2 = omega arith in
-      ap (λ m. before (get_or xs m d) (get_or xs j d)) q ∙ turns o _ _ (λ s. let z : j ≡ (j - 1) / 2 = are_apart d j ((j - 1) / 2) in' (omega arith) s in omega arith) (t d)
+      let few = was.few in
+      ((tellable i r l (λ d. named d ∙ ap handle (came d))).0, omega arith)
 
   next : (r : ℕ) → ((d : K) → r ≡ next_down before (λ m. get_or xs m d) n j) → (d : K) → Next before (λ m. get_or xs m d) n j r
   next r is d = next_is o (λ m. get_or xs m d) n j (are_apart d) r (is d) was.inside
@@ -82,17 +73,14 @@ module _ {K : Type 0} {handle : K → ℕ} {before : K → K → Bool} (o : Orde
       ((to d).0, (to d).1, (to d).2, λ e. (to e).3, λ e. (to e).4)
 
   -- it rests, and its place is told
-  pub rests : {qs : List ℕ} (r c : ℕ) → c ≡ j → ((d : K) → c ≡ next_down before (λ m. get_or xs m d) n j) → ((d : K) → Over before (λ m. get_or xs m d) j) → ((d : K) → r ≡ handle (get_or xs j d)) → qs ≡ set ps r j → InOrder handle before xs qs n
-  rests r c same is over named put =
-      let under : (d : K) → Under before (λ m. get_or xs m d) j n = λ d. ⊎_elim (λ w. w.1) (λ w. let z = w.0 in absurd (omega arith)) (next c is d) in
+  pub rests : {qs : List ℕ} (r : ℕ) → ((d : K) → next_down before (λ m. get_or xs m d) n j ≡ j) → ((d : K) → Over before (λ m. get_or xs m d) j) → ((d : K) → r ≡ handle (get_or xs j d)) → qs ≡ set ps r j → InOrder handle before xs qs n
+  rests r is over named put =
+      let under : (d : K) → Under before (λ m. get_or xs m d) j n = λ d. ⊎_elim (λ w. w.1) (λ w. let z = w.0 in absurd (omega arith)) (next j (λ e. sym (is e)) d) in
       subst (λ q. InOrder handle before xs q n) (sym put) (record {
         few = was.few;
         fits = was.fits;
         low = λ d i a. let l = was.low d i a in let z = length-set ps r j in (l.0, l.1, omega (arith, l.2));
-        told = λ d i a. ⊎_elim
-            (λ (q : i ≡ j). ap (λ m. get_or (set ps r j) m 0) (ap (λ m. handle (get_or xs m d)) q ∙ sym (named d)) ∙ get_or-set_same ps r j 0 (let l = was.low d j was.inside in omega (arith, l.2, named d)) ∙ sym q)
-            (λ u. get_or-set_other ps r (handle (get_or xs i d)) j 0 (λ e. was.fresh d i a u (e ∙ named d)) ∙ was.told d i a u)
-            (cases_eq i j);
+        told = λ d i a. let low = was.low d j was.inside in grind (arith, cases_eq i j, named d, was.fresh d i, was.told d i, get_or-set_same ps r j 0, get_or-set_other ps r (handle (get_or xs i d)) j 0);
         heaped = λ d k e. closes o (λ m. get_or xs m d) j n (was.gap d) (over d) (under d) (k / 2) (k + 1) (omega arith) (omega arith) e;
       })
 

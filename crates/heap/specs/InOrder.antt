@@ -18,7 +18,7 @@ module _ {K : Type 0} (keys : List K) where
   abbrev pub Heaped : (K → K → Bool) → ℕ → Type 0
   Heaped before n = (d : K) (k : ℕ) → k + 1 < n → before (slice_index_or keys (k / 2) d) (slice_index_or keys (k + 1) d) ≡ true
 
--- A heap of n keys is in order. The five parts can each be a ghost field of an owner.
+-- A heap of n keys is in order: this stands in the type of each heap, ranking and view.
 pub record InOrder {K : Type 0} (handle : K → ℕ) (before : K → K → Bool) (keys : List K) (places : List ℕ) (n : ℕ) : Type 0 where
   pub few : n ≤ 1024
   pub fits : n ≤ length keys

@@ -4,3 +4,5 @@ pub mod InOrder
 pub mod Answers
 pub mod Sifting
 pub mod Heaps
+pub mod Rankings
+pub mod Views

@@ -1,28 +1,32 @@
-// The indexed heap: a struct over lent memory, how it is made, and what is read off it.
-ghost use Rattle.std.specs.Prelude.{◌≡◌};
-ghost use Rattle.heap.specs.Held.{SameKeys, nothing, capacity, counted};
+// The indexed heap: a struct over lent memory, and its calls.
+ghost use Rattle.std.specs.Prelude.{◌≡◌, ◌+◌, MatchResult};
+ghost use Rattle.refusal.specs.Answers.{if_accepted};
+ghost use Rattle.heap.specs.Held.{SameKeys, nothing, put, without, capacity, counted};
 ghost use Rattle.heap.specs.InOrder.{InOrder};
-ghost use Rattle.heap.specs.Answers.{First, Seated};
-ghost use Rattle.heap.specs.Heaps.{Sound, held_in, SameMemory};
+ghost use Rattle.heap.specs.Answers.{First};
 
+use crate::change;
 use crate::key::Key;
-use crate::read::{Seat, capacity_of, count_of, first_of, key_of, seat_of};
+use crate::view::View;
 use refusal::Refusal;
 
 // The keys held are the first `len` of the lent keys, every one after its parent; the place of each is told at its handle.
+// The type says so, and no call of a heap asks anything.
 // The maker lends the memory and has it back when the heap ends; nothing is allocated, so no call fails for want of memory.
 #[derive(Drop)]
 pub struct IndexedHeap<'a, K: Key> {
     pub(crate) keys: &'a mut [K],
     pub(crate) places: &'a mut [u16],
     pub(crate) len: usize,
+    ghost order: { InOrder K.handle_of K.before keys.now places.now len },
 }
 
 impl<'a, K: Key> IndexedHeap<'a, K> {
+    ghost use Rattle.heap.specs.Heaps.{held_in, insert_in, change_in, Unchanged, SameMemory};
+
     // An empty heap over lent memory, whatever the memory holds. It writes nothing.
     pub fn new(keys: &'a mut [K], places: &'a mut [u16]) -> IndexedHeap<'a, K>
-        ensures order { Sound K.handle_of K.before result }
-        ensures holds { SameKeys (held_in K.handle_of result) nothing }
+        ensures holds { SameKeys (held_in result) nothing }
         ensures same { (result.keys.now ≡ keys.old) × (result.places.now ≡ places.old) × (result.len ≡ 0) }
         ensures lender { (result.keys.ghost_name ≡ keys.entry.ghost_name) × (result.places.ghost_name ≡ places.entry.ghost_name) }
     {
@@ -42,10 +46,16 @@ impl<'a, K: Key> IndexedHeap<'a, K> {
         IndexedHeap { keys, places, len }
     }
 
+    // What is read off the heap.
+    fn view(&self) -> View<'_, K>
+        ensures { (result.keys.now ≡ self.now.keys.now) × (result.places.now ≡ self.now.places.now) × (result.len ≡ self.now.len) }
+    {
+        View::over(self.keys, self.places, self.len)
+    }
+
     // Lets every key go. Never refused; one step.
     pub fn clear(&mut self)
-        ensures order { Sound K.handle_of K.before self.new }
-        ensures holds { SameKeys (held_in K.handle_of self.new) nothing }
+        ensures holds { SameKeys (held_in self.new) nothing }
         ensures len { self.new.len ≡ 0 }
         ensures lender { SameMemory self.old self.new }
     {
@@ -56,39 +66,58 @@ impl<'a, K: Key> IndexedHeap<'a, K> {
     pub fn capacity(&self) -> usize
         ensures { result ≡ capacity self.now.keys.now self.now.places.now }
     {
-        capacity_of(self.keys.len(), self.places.len())
+        self.view().capacity()
     }
 
     // How many keys are held. One step.
     pub fn count(&self) -> usize
-        requires { Sound K.handle_of K.before self.now }
         ensures len { result ≡ self.now.len }
-        ensures counts { result ≡ counted (held_in K.handle_of self.now) 1024 }
+        ensures counts { result ≡ counted (held_in self.now) 1024 }
     {
-        count_of(self.keys, self.len)
+        self.view().count()
     }
 
-    // The handle of the key that comes before all others; refused with 6 where nothing is held. One step.
+    // The handle of the key that comes before all others; refused with `Nobody` where nothing is held. One step.
     pub fn first(&self) -> Result<u32, Refusal>
-        requires { Sound K.handle_of K.before self.now }
-        ensures { First K.handle_of K.before (held_in K.handle_of self.now) result }
+        ensures { First K.handle_of K.before (held_in self.now) result }
     {
-        first_of(self.keys, self.len)
+        self.view().first()
     }
 
     // The key with a handle, if it is held. One step.
     pub fn get(&self, handle: u32) -> Option<K>
-        requires { Sound K.handle_of K.before self.now }
-        ensures { result ≡ held_in K.handle_of self.now handle }
+        ensures { result ≡ held_in self.now handle }
     {
-        key_of(self.keys, self.places, self.len, handle)
+        self.view().get(handle)
     }
 
-    // Where the key with a handle is. One step.
-    pub(crate) fn seat(&self, handle: u32) -> Seat
-        requires { Sound K.handle_of K.before self.now }
-        ensures { Seated K.handle_of self.now.keys.now self.now.places.now self.now.len handle result }
+    // Adds a key; refused with `OutOfRange` unless its handle is below the capacity, then with `Held` if its handle is held. O(log n).
+    pub fn insert(&mut self, key: K) -> Result<(), Refusal>
+        ensures answers { result ≡ insert_in self.old (K.handle_of key) }
+        ensures holds { MatchResult result (λ _. SameKeys (held_in self.new) (put K.handle_of key (held_in self.old))) (λ _. Unchanged self.old self.new) }
+        ensures len { self.new.len ≡ if_accepted result (self.old.len + 1) self.old.len }
+        ensures lender { SameMemory self.old self.new }
     {
-        seat_of(self.keys, self.places, self.len, handle)
+        change::insert(self.keys, self.places, &mut self.len, key)
+    }
+
+    // Puts a key in the place of the one with its handle; refused with `OutOfRange` unless the handle is below the capacity, then with `NotHeld` if it is not held. O(log n).
+    pub fn replace(&mut self, key: K) -> Result<(), Refusal>
+        ensures answers { result ≡ change_in self.old (K.handle_of key) }
+        ensures holds { MatchResult result (λ _. SameKeys (held_in self.new) (put K.handle_of key (held_in self.old))) (λ _. Unchanged self.old self.new) }
+        ensures len { self.new.len ≡ self.old.len }
+        ensures lender { SameMemory self.old self.new }
+    {
+        change::replace(self.keys, self.places, self.len, key)
+    }
+
+    // Takes out the key with a handle; refused with `OutOfRange` unless the handle is below the capacity, then with `NotHeld` if it is not held. O(log n).
+    pub fn remove(&mut self, handle: u32) -> Result<(), Refusal>
+        ensures answers { result ≡ change_in self.old handle }
+        ensures holds { MatchResult result (λ _. SameKeys (held_in self.new) (without handle (held_in self.old))) (λ _. Unchanged self.old self.new) }
+        ensures len { MatchResult result (λ _. self.new.len + 1 ≡ self.old.len) (λ _. self.new.len ≡ self.old.len) }
+        ensures lender { SameMemory self.old self.new }
+    {
+        change::remove(self.keys, self.places, &mut self.len, handle)
     }
 }

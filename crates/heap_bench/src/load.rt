@@ -1,5 +1,5 @@
 // The load: each round fills a ranking, changes and removes keys at random, and empties it in order.
-use crate::ranking::Ranking;
+use heap::Ranking;
 use keys::left::LeftKey;
 
 // The next number of a linear congruential sequence.
@@ -17,7 +17,7 @@ fn left_of(seed: u32) -> u32 {
     (seed >> 8) % 10_000 + 1
 }
 
-fn fill(ranking: &mut Ranking, mut seed: u32) -> u32 {
+fn fill(ranking: &mut Ranking<LeftKey>, mut seed: u32) -> u32 {
     for number in 0..1024 {
         seed = next(seed);
         let _ = ranking.insert(LeftKey {
@@ -28,7 +28,7 @@ fn fill(ranking: &mut Ranking, mut seed: u32) -> u32 {
     seed
 }
 
-fn change(ranking: &mut Ranking, mut seed: u32) -> u32 {
+fn change(ranking: &mut Ranking<LeftKey>, mut seed: u32) -> u32 {
     for _ in 0..4096 {
         let at = next(seed);
         seed = next(at);
@@ -40,7 +40,7 @@ fn change(ranking: &mut Ranking, mut seed: u32) -> u32 {
     seed
 }
 
-fn thin(ranking: &mut Ranking, mut seed: u32) -> u32 {
+fn thin(ranking: &mut Ranking<LeftKey>, mut seed: u32) -> u32 {
     for _ in 0..512 {
         seed = next(seed);
         let _ = ranking.remove(number_of(seed));
@@ -48,7 +48,7 @@ fn thin(ranking: &mut Ranking, mut seed: u32) -> u32 {
     seed
 }
 
-fn empty(ranking: &mut Ranking, mut sum: u32) -> u32 {
+fn empty(ranking: &mut Ranking<LeftKey>, mut sum: u32) -> u32 {
     for _ in 0..1024 {
         if let Ok(number) = ranking.first() {
             sum = sum.wrapping_mul(31).wrapping_add(number);
@@ -60,7 +60,7 @@ fn empty(ranking: &mut Ranking, mut sum: u32) -> u32 {
 
 // What the numbers come to in the order in which they came out.
 pub fn run(rounds: u32) -> u32 {
-    let mut ranking = Ranking::new();
+    let mut ranking = Ranking::new(LeftKey { left: 0, number: 0 });
     let mut seed = 1;
     let mut sum = 0;
     for _ in 0..rounds {

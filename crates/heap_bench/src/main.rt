@@ -2,8 +2,6 @@
 #![tactic(auto)]
 
 mod load;
-mod ranking;
-mod ranking_calls;
 
 use std::io;
 

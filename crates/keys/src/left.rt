@@ -4,7 +4,7 @@ ghost use Rattle.std.proofs.Common.{rules};
 
 use heap::Key;
 
-#[derive(Clone, Copy)]
+#[derive(Clone, Copy, PartialEq, Eq, PartialOrd, Ord)]
 pub struct LeftKey {
     pub left: u32,
     pub number: u32,
@@ -23,6 +23,6 @@ impl Key for LeftKey {
     }
 
     fn comes_before(&self, other: &LeftKey) -> bool {
-        self.left < other.left || (self.left == other.left && self.number < other.number)
+        self < other
     }
 }

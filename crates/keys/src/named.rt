@@ -44,25 +44,7 @@ impl Key for NameKey {
 fn name_before(a: &[u8], b: &[u8], m: u32, n: u32) -> bool
     ensures { result ≡ earlier a.now b.now m n }
 {
-    let mut i = 0;
-    while i < a.len() {
-        if i >= b.len() {
-            return false;
-        }
-        let x = a[i];
-        let y = b[i];
-        if x < y {
-            return true;
-        }
-        if y < x {
-            return false;
-        }
-        i += 1;
-    }
-    if i < b.len() {
-        return true;
-    }
-    m < n
+    (a, m) < (b, n)
 }
 
 #[cfg(test)]

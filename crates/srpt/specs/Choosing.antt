@@ -4,8 +4,6 @@ use Rattle.std.proofs.Common.{sym, ap, subst, ◌∙◌, ⊎_elim, arith}
 use Rattle.std.proofs.lemmas.Bool.{cases_eq}
 use Rattle.std.proofs.lemmas.Bool.Decides.{nat_tests}
 use Rattle.refusal.specs.declared.Refusal.{Refusal}
-use Rattle.refusal.specs.declared.Refusal.TheVariants.{Nobody}
-use Rattle.refusal.proofs.Apart.{told_apart}
 use Rattle.job.proofs.Sizes.{size_low}
 use Rattle.discipline.specs.Meaning.{Chosen, choose_answer}
 use Rattle.heap.specs.Held.{Foremost}
@@ -28,8 +26,8 @@ pub least_chosen : (left : List ℕ) → Chosen left (least left)
 least_chosen left = chosen_if_best left (shortest left) (best left)
 
 named_job : (e : Entry) (j : ℕ) → named e ≡ Some j → e ≡ job j
-named_job (job i) j h = let f : i ≡ j = cc in ap job f
-named_job idle j h = let z : ◌≡◌ {A = ℕ} 0 1 = cc in absurd (omega arith)
+named_job (job i) j h = cc
+named_job idle j h = cc
 
 -- A job that is chosen has the least left work of those present.
 pub least_best : (left : List ℕ) (j : ℕ) → least left ≡ Some j → Best left (job j)
@@ -78,5 +76,5 @@ module _ (m : ℕ → Option LeftKey) (left : List ℕ)
   first_chosen (Ok h) f = ap (λ (e : Entry). choose_answer (named e)) (best_one left (job h) (shortest left) (foremost_best h f) (best left))
   first_chosen (Err c) f =
       let nobody : Best left idle = λ i p. (let z : slice_index_or left i 0 ≡ 0 = at i ∙ ap left_in (f.1 i) in omega arith) in
-      ap Err (told_apart c Nobody f.0)
+      ap Err f.0
       ∙ ap (λ (e : Entry). choose_answer (named e)) (best_one left idle (shortest left) nobody (best left))

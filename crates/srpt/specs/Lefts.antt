@@ -2,7 +2,7 @@
 use Rattle.std.specs.Prelude.{ℕ, List, map, Some, None, Option}
 use Rattle.std.specs.List.{range_with_len}
 use Rattle.keys.specs.declared.left.LeftKey.{LeftKey}
-use Rattle.srpt.specs.Ranked.{keys_of}
+use Rattle.heap.specs.Rankings.{keys_of}
 use Rattle.srpt.specs.declared.srpt.Srpt.{Srpt}
 
 -- The left work in a job's key, 0 where it has none.

@@ -1,4 +1,4 @@
-use Rattle.srpt.specs.contracts.srpt_calls.SrptDiscipline.TheImpl.{ghosts}
+use Rattle.srpt.specs.contracts.srpt.SrptDiscipline.TheImpl.{ghosts}
 use Rattle.srpt.specs.Jobs.{least_sound}
 use Rattle.srpt.specs.Choosing.{least_best}
 use Rattle.contest.proofs.Comparing.{runs_compared}
