@@ -2,72 +2,84 @@
 use heap::Ranking;
 use keys::left::LeftKey;
 
-// The next number of a linear congruential sequence.
-fn next(seed: u32) -> u32 {
-    seed.wrapping_mul(1_664_525).wrapping_add(1_013_904_223)
+// A linear congruential sequence; what is drawn are the upper bits of its numbers.
+#[derive(Clone, Copy)]
+struct Sequence {
+    seed: u32,
 }
 
-// A job number, 0 to 1,023, of a random number's upper bits.
-fn number_of(seed: u32) -> u32 {
-    (seed >> 8) % 1024
-}
-
-// A left work, 1 to 10,000, of a random number's upper bits.
-fn left_of(seed: u32) -> u32 {
-    (seed >> 8) % 10_000 + 1
-}
-
-fn fill(ranking: &mut Ranking<LeftKey>, mut seed: u32) -> u32 {
-    for number in 0..1024 {
-        seed = next(seed);
-        let _ = ranking.insert(LeftKey {
-            left: left_of(seed),
-            number,
-        });
+impl Sequence {
+    fn draw(&mut self) -> u32 {
+        self.seed = self
+            .seed
+            .wrapping_mul(1_664_525)
+            .wrapping_add(1_013_904_223);
+        self.seed >> 8
     }
-    seed
-}
 
-fn change(ranking: &mut Ranking<LeftKey>, mut seed: u32) -> u32 {
-    for _ in 0..4096 {
-        let at = next(seed);
-        seed = next(at);
-        let _ = ranking.replace(LeftKey {
-            left: left_of(seed),
-            number: number_of(at),
-        });
+    // A job number, 0 to 1,023.
+    fn number(&mut self) -> u32 {
+        self.draw() % 1024
     }
-    seed
-}
 
-fn thin(ranking: &mut Ranking<LeftKey>, mut seed: u32) -> u32 {
-    for _ in 0..512 {
-        seed = next(seed);
-        let _ = ranking.remove(number_of(seed));
+    // A left work, 1 to 10,000.
+    fn left(&mut self) -> u32 {
+        self.draw() % 10_000 + 1
     }
-    seed
 }
 
-fn empty(ranking: &mut Ranking<LeftKey>, mut sum: u32) -> u32 {
-    for _ in 0..1024 {
-        if let Ok(number) = ranking.first() {
-            sum = sum.wrapping_mul(31).wrapping_add(number);
-            let _ = ranking.remove(number);
+// A ranking under load, and what the numbers come to in the order in which they came out.
+#[derive(Drop)]
+struct Load {
+    ranking: Ranking<LeftKey>,
+    random: Sequence,
+    sum: u32,
+}
+
+impl Load {
+    fn fill(&mut self) {
+        for number in 0..1024 {
+            let left = self.random.left();
+            let _ = self.ranking.insert(LeftKey { left, number });
         }
     }
-    sum
+
+    fn change(&mut self) {
+        for _ in 0..4096 {
+            let number = self.random.number();
+            let left = self.random.left();
+            let _ = self.ranking.replace(LeftKey { left, number });
+        }
+    }
+
+    fn thin(&mut self) {
+        for _ in 0..512 {
+            let _ = self.ranking.remove(self.random.number());
+        }
+    }
+
+    fn empty(&mut self) {
+        for _ in 0..1024 {
+            if let Ok(number) = self.ranking.first() {
+                self.sum = self.sum.wrapping_mul(31).wrapping_add(number);
+                let _ = self.ranking.remove(number);
+            }
+        }
+    }
 }
 
-// What the numbers come to in the order in which they came out.
+// The sum after so many rounds.
 pub fn run(rounds: u32) -> u32 {
-    let mut ranking = Ranking::new(LeftKey { left: 0, number: 0 });
-    let mut seed = 1;
-    let mut sum = 0;
+    let mut load = Load {
+        ranking: Ranking::new(LeftKey { left: 0, number: 0 }),
+        random: Sequence { seed: 1 },
+        sum: 0,
+    };
     for _ in 0..rounds {
-        seed = fill(&mut ranking, seed);
-        seed = change(&mut ranking, seed);
-        seed = thin(&mut ranking, seed);
-        sum = empty(&mut ranking, sum);
+        load.fill();
+        load.change();
+        load.thin();
+        load.empty();
     }
-    sum
+    load.sum
 }

@@ -1,6 +1,6 @@
 // SRPT as a discipline: it chooses the present job with the least left work, and of equals the one with the smallest number.
-ghost use Rattle.std.specs.Prelude.{◌≡◌, ℕ, ◌-◌, ◌<◌, ◌≤◌, true, replicate, if◌then◌else◌, ◌==◌, nat_eq, slice_index, slice_set};
-ghost use Rattle.refusal.specs.declared.Refusal.TheVariants.{Held};
+ghost use Rattle.std.specs.Prelude.{◌≡◌, ℕ, ◌-◌, ◌<◌, ◌≤◌, true, replicate, if◌then◌else◌, Ok, ◌==◌, nat_eq, nat_le, slice_index, slice_set};
+ghost use Rattle.refusal.specs.declared.Refusal.TheVariants.{Held, OutOfRange};
 ghost use Rattle.refusal.specs.Answers.{provided, if_accepted};
 ghost use Rattle.job.specs.Rules.{good_size};
 ghost use Rattle.discipline.specs.Meaning.{choose_answer, count_present};
@@ -74,6 +74,17 @@ impl Srpt {
     }
 }
 
+// The one test of a number that all calls share.
+fn in_range(number: u32) -> Result<(), Refusal>
+    ensures { result ≡ provided (nat_le number 1023) OutOfRange (Ok tt) }
+{
+    if (number as usize) < MAX_JOBS {
+        Ok(())
+    } else {
+        Err(Refusal::OutOfRange)
+    }
+}
+
 impl Discipline for Srpt {
     ghost use Rattle.srpt.specs.Lefts.{lefts_of};
     ghost use Rattle.srpt.specs.Choice.{least};
@@ -94,9 +105,7 @@ impl Discipline for Srpt {
     // Job `number` is present from now on, with `size` units left. Refused, in this order: with `OutOfRange` for a number
     // above 1,023, with `Size` for a size that no job has, with `Held` for a job that is present already. O(log n).
     fn admit(&mut self, number: u32, size: u32) -> Result<(), Refusal> {
-        if number as usize >= MAX_JOBS {
-            return Err(Refusal::OutOfRange);
-        }
+        in_range(number)?;
         if !is_size(size) {
             return Err(Refusal::Size);
         }
@@ -112,9 +121,7 @@ impl Discipline for Srpt {
     // One unit of work is done on job `number`; answers what is left, and without any left the job is no longer present.
     // Refused, in this order: with `OutOfRange` for a number above 1,023, with `NotHeld` for a job that is not present. O(log n).
     fn worked(&mut self, number: u32) -> Result<u32, Refusal> {
-        if number as usize >= MAX_JOBS {
-            return Err(Refusal::OutOfRange);
-        }
+        in_range(number)?;
         let left = self.left_at(number);
         if left == 0 {
             return Err(Refusal::NotHeld);
@@ -125,9 +132,7 @@ impl Discipline for Srpt {
 
     // The left work of job `number`, 0 for one that is not present. Refused with `OutOfRange` for a number above 1,023. One step.
     fn left(&self, number: u32) -> Result<u32, Refusal> {
-        if number as usize >= MAX_JOBS {
-            return Err(Refusal::OutOfRange);
-        }
+        in_range(number)?;
         Ok(self.left_at(number))
     }
 
