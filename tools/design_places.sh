@@ -2,7 +2,7 @@
 # The places that the design pass looks at, by text: run at the top of the repository, `tools/design_places.sh [POINT]`. Each line is a
 # candidate, which somebody has to read; docs/DESIGN-PASS.md says what became of each.
 set -uo pipefail
-src() { find crates -path '*/src/*.rt' | sort; }
+src() { git ls-files -- 'crates/*/src/*.rt' | sort; }
 point() { [ $# -eq 0 ] || echo; echo "== $1"; }
 one() {
     point "1. enums, and numbers for kinds"
@@ -23,7 +23,7 @@ four() {
 five() {
     point "5. words of clauses that three functions or more of one crate ask or promise, with how often"
     for crate in crates/*/; do
-        find "$crate"src -name '*.rt' | sort | xargs grep -hoE '^ *(requires|ensures)[^{]*\{ .*' | grep -oE '\b[A-Z][A-Za-z]+\b' |
+        git ls-files -- "$crate"'src/*.rt' | xargs grep -hoE '^ *(requires|ensures)[^{]*\{ .*' | grep -oE '\b[A-Z][A-Za-z]+\b' |
             grep -vE '^(D|K|Discipline|Some|None|Ok|Err|IfOk|IfErr|IfSome|OnOk|MatchResult|MatchOption|Self|Call|Refusal|List|HandIn|Quantum|Held)$' |
             sort | uniq -c | awk -v c="$crate" '$1 > 2 { print c, $2, $1 }'
     done
@@ -42,8 +42,8 @@ seven() {
 eight() {
     point "8. answers and lines of proofs, by crate"
     for crate in crates/*/; do
-        answers=$(find "$crate"proofs -name Answers.antt 2>/dev/null | xargs -r grep -hE '^pub [^ ]+ : goal\.' | wc -l)
-        lines=$(find "$crate"proofs -name '*.antt' 2>/dev/null | xargs -r cat | wc -l)
+        answers=$(git ls-files -- "$crate"'proofs/*Answers.antt' | xargs -r grep -hE '^pub [^ ]+ : goal\.' | wc -l)
+        lines=$(git ls-files -- "$crate"'proofs/*.antt' | xargs -r cat | wc -l)
         echo "$crate answers $answers lines $lines"
     done
 }

@@ -4,17 +4,17 @@ use Rattle.refusal.specs.declared.Refusal.{Refusal}
 use Rattle.discipline.specs.declared.Discipline.{Ghosts}
 use Rattle.run.specs.declared.lease.Lease.{Lease}
 use Rattle.run.specs.Runs.{meaning}
-use Rattle.run.specs.Histories.{Step}
+use Rattle.run.specs.Histories.{Step, handed_in}
 use Rattle.contest.specs.declared.calls.Hand.{Hand}
 use Rattle.contest.specs.declared.calls.Hand.TheVariants.{Own, Stray}
 use Rattle.contest.specs.declared.calls.Reply.{Reply}
 use Rattle.contest.specs.declared.calls.Reply.TheVariants.{Accepted}
 use Rattle.contest.specs.declared.side.Side.{Side}
-use Rattle.contest.specs.declared.play.End.{End}
-use Rattle.contest.specs.declared.play.End.TheVariants.{Worked, Lost}
+use Rattle.run.specs.declared.ending.End.{End}
+use Rattle.run.specs.declared.ending.End.TheVariants.{Done, Back}
 use Rattle.contest.specs.Calls.{own}
 use Rattle.contest.specs.Chains.{Handed, dones, backs}
-use Rattle.contest.specs.Played.{hand_of, handing_in, handed_in, Answer, replied, mark_of, Plays}
+use Rattle.contest.specs.Played.{hand_of, handing_in, Answer, replied, mark_of, Plays}
 
 -- ---- which lease may be handed in
 
@@ -41,10 +41,10 @@ mapped (Err e) a P f h p = p
 module _ {D : Type 0} (d : Ghosts D) (x y : Side D d) (l : Lease) where
   pub plays_accepted : (e : End) (h : Hand) (u : Unit {0}) → Handed (mark_of x) (hand_of h) x.lease l → Step (handed_in e l (Ok u)) (meaning d x.run) (meaning d y.run)
       → y.lease ≡ None → Plays d x (handing_in e h) (Ok Accepted) y
-  plays_accepted Worked h u a p i = record { event = handed_in Worked l (Ok u); asks = dones (hand_of h) l (Ok u) a; does = p; leaves = i; answers = refl }
-  plays_accepted Lost h u a p i = record { event = handed_in Lost l (Ok u); asks = backs (hand_of h) l (Ok u) a; does = p; leaves = i; answers = refl }
+  plays_accepted Done h u a p i = record { event = handed_in Done l (Ok u); asks = dones (hand_of h) l (Ok u) a; does = p; leaves = i; answers = refl }
+  plays_accepted Back h u a p i = record { event = handed_in Back l (Ok u); asks = backs (hand_of h) l (Ok u) a; does = p; leaves = i; answers = refl }
 
   pub plays_refused : (e : End) (h : Hand) (c : Refusal) (b : Lease) → Handed (mark_of x) (hand_of h) x.lease l
       → Step (handed_in e l (Err (c, b))) (meaning d x.run) (meaning d y.run) → y.lease ≡ x.lease → Plays d x (handing_in e h) (Err c) y
-  plays_refused Worked h c b a p i = record { event = handed_in Worked l (Err (c, b)); asks = dones (hand_of h) l (Err (c, b)) a; does = p; leaves = i; answers = refl }
-  plays_refused Lost h c b a p i = record { event = handed_in Lost l (Err (c, b)); asks = backs (hand_of h) l (Err (c, b)) a; does = p; leaves = i; answers = refl }
+  plays_refused Done h c b a p i = record { event = handed_in Done l (Err (c, b)); asks = dones (hand_of h) l (Err (c, b)) a; does = p; leaves = i; answers = refl }
+  plays_refused Back h c b a p i = record { event = handed_in Back l (Err (c, b)); asks = backs (hand_of h) l (Err (c, b)) a; does = p; leaves = i; answers = refl }

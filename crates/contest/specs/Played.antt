@@ -3,7 +3,6 @@ use Rattle.std.specs.Prelude.{◌≡◌, ℕ, Ok, Err, Result, MatchOption}
 use Rattle.refusal.specs.declared.Refusal.{Refusal}
 use Rattle.discipline.specs.declared.Discipline.{Ghosts}
 use Rattle.run.specs.declared.run.Run.{Run}
-use Rattle.run.specs.declared.lease.Lease.{Lease}
 use Rattle.run.specs.Runs.{meaning}
 use Rattle.run.specs.Steps.{Backs}
 use Rattle.run.specs.Histories.{Event, enter, take, done, back, pass, Step}
@@ -14,8 +13,8 @@ use Rattle.contest.specs.declared.calls.Call.TheVariants.{Enter, Take, Done, Bac
 use Rattle.contest.specs.declared.calls.Reply.{Reply}
 use Rattle.contest.specs.declared.calls.Reply.TheVariants.{Entered, Leased, Accepted}
 use Rattle.contest.specs.declared.side.Side.{Side}
-use Rattle.contest.specs.declared.play.End.{End}
-use Rattle.contest.specs.declared.play.End.TheVariants.{Worked, Lost}
+use Rattle.run.specs.declared.ending.End.{End}
+use Rattle.run.specs.declared.ending.End.TheVariants as Ends
 use Rattle.contest.specs.Calls as C
 use Rattle.contest.specs.Transcripts.{without_lease, lease_after}
 use Rattle.contest.specs.Chains.{Asks}
@@ -35,13 +34,8 @@ call_of Pass = C.Pass
 
 -- The call that ends a tick.
 abbrev pub handing_in : End → Hand → C.Call
-handing_in Worked hand = C.Done (hand_of hand)
-handing_in Lost hand = C.Back (hand_of hand)
-
--- That call with its answer.
-abbrev pub handed_in : End → Lease → Result (Unit {0}) (Refusal × Lease) → Event
-handed_in Worked l r = done l r
-handed_in Lost l r = back l r
+handing_in Ends.Done hand = C.Done (hand_of hand)
+handing_in Ends.Back hand = C.Back (hand_of hand)
 
 -- What a run answers, as it is written down.
 abbrev pub Answer : Type 0

@@ -1,34 +1,16 @@
 // How one side of a contest makes a call.
-ghost use Rattle.std.specs.Prelude.{◌≡◌, IfErr, None, Err, ◌≢◌};
+ghost use Rattle.std.specs.Prelude.{◌≡◌, None, Err, ◌≢◌};
 ghost use Rattle.run.specs.Runs.{meaning};
 ghost use Rattle.run.specs.Steps.{made_with};
-ghost use Rattle.run.specs.Histories.{Step};
+ghost use Rattle.run.specs.Histories.{Step, handed_in};
 ghost use Rattle.contest.specs.Calls.{Enter, Take, Pass};
-ghost use Rattle.contest.specs.Played.{call_of, handed_in, handing_in, mark_of, Plays, HandedBack};
+ghost use Rattle.contest.specs.Played.{call_of, handing_in, mark_of, Plays, HandedBack};
 
 use crate::calls::{Answer, Call, Hand, Reply};
 use crate::side::Side;
 use discipline::Discipline;
 use refusal::Refusal;
-use run::{Lease, Run};
-
-// How a tick under a lease ends: with a unit done, or lost.
-#[derive(Clone, Copy)]
-pub(crate) enum End {
-    Worked,
-    Lost,
-}
-
-// Hands a lease in.
-fn hand_in<D: Discipline>(run: &mut Run<D>, lease: Lease, end: End) -> Result<(), (Refusal, Lease)>
-    ensures does { Step (handed_in end lease result) (meaning D.Discipline run.old) (meaning D.Discipline run.new) }
-    ensures unspent { IfErr result (λ refused. refused.1 ≡ lease) }
-{
-    match end {
-        End::Worked => run.done(lease),
-        End::Lost => run.back(lease),
-    }
-}
+use run::{End, Lease, Run};
 
 // Hands in a lease with another mark, which is refused.
 fn hand_in_stray<D: Discipline>(run: &mut Run<D>, stray: Lease, end: End) -> (Refusal, Lease)
@@ -36,7 +18,7 @@ fn hand_in_stray<D: Discipline>(run: &mut Run<D>, stray: Lease, end: End) -> (Re
     ensures does { Step (handed_in end stray (Err result)) (meaning D.Discipline run.old) (meaning D.Discipline run.new) }
     ensures unspent { result.1 ≡ stray }
 {
-    match hand_in(run, stray, end) {
+    match run.end(stray, end) {
         Ok(()) => unreachable(),
         Err(refused) => refused,
     }
@@ -85,7 +67,7 @@ impl<D: Discipline> Side<D> {
     {
         let Side { mut run, lease } = self;
         match (hand, lease) {
-            (Hand::Own, Some(own)) => match hand_in(&mut run, own, end) {
+            (Hand::Own, Some(own)) => match run.end(own, end) {
                 Ok(()) => (Side { run, lease: None }, Ok(Reply::Accepted), stray),
                 Err((cause, own)) => {
                     let lease = Some(own);
@@ -118,8 +100,8 @@ impl<D: Discipline> Side<D> {
                 let answer = self.take();
                 (self, answer, stray)
             }
-            Call::Done(hand) => self.end_tick(stray, End::Worked, hand),
-            Call::Back(hand) => self.end_tick(stray, End::Lost, hand),
+            Call::Done(hand) => self.end_tick(stray, End::Done, hand),
+            Call::Back(hand) => self.end_tick(stray, End::Back, hand),
             Call::Pass => {
                 let answer = self.pass();
                 (self, answer, stray)

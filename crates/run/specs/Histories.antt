@@ -4,6 +4,8 @@ use Rattle.refusal.specs.declared.Refusal.{Refusal}
 use Rattle.refusal.specs.Answers.{if_accepted}
 use Rattle.discipline.specs.Meaning.{Sound}
 use Rattle.run.specs.declared.lease.Lease.{Lease}
+use Rattle.run.specs.declared.ending.End.{End}
+use Rattle.run.specs.declared.ending.End.TheVariants.{Done, Back}
 use Rattle.run.specs.States.{State}
 use Rattle.run.specs.Steps.{Takes, Dones, Backs, Passes, Enters, made_with}
 
@@ -14,6 +16,11 @@ pub data Event : Type 0 where
   done : Lease → Result (Unit {0}) (Refusal × Lease) → Event
   back : Lease → Result (Unit {0}) (Refusal × Lease) → Event
   pass : Result (Unit {0}) Refusal → Event
+
+-- The call that ends a tick under a lease, with its answer.
+abbrev pub handed_in : End → Lease → Result (Unit {0}) (Refusal × Lease) → Event
+handed_in Done l r = done l r
+handed_in Back l r = back l r
 
 -- What a call does to a run, by the contract of that call.
 abbrev pub Step : Event → State → State → Type 0

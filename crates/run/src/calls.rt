@@ -1,13 +1,15 @@
 // The calls of a run.
-ghost use Rattle.std.specs.Prelude.{◌≡◌, ◌-◌, ◌<◌, IfOk, IfErr, Ok, OnOk, slice_index};
+ghost use Rattle.std.specs.Prelude.{◌≡◌, ◌+◌, ◌-◌, ◌<◌, IfOk, IfErr, Ok, OnOk, slice_index};
 ghost use Rattle.discipline.specs.Meaning.{cleared, admitted, worked};
 ghost use Rattle.run.specs.States.{Tied};
 ghost use Rattle.run.specs.Steps.{Enters, Takes, Dones, Backs, Passes, done_rule, made_with};
+ghost use Rattle.run.specs.Histories.{Step, handed_in};
 ghost use Rattle.run.specs.Laws.{AlwaysLawful};
 ghost use Rattle.run.specs.Runs.{meaning, discipline_of, Untouched, UntouchedIfRefused, Moves};
 
 use crate::accounts::Accounts;
 use crate::book::Book;
+use crate::ending::End;
 use crate::lease::Lease;
 use crate::run::Run;
 use discipline::Discipline;
@@ -114,6 +116,19 @@ impl<D: Discipline> Run<D> {
         let present = self.present();
         self.accounts.end(present);
         Ok(())
+    }
+
+    // The tick ends so: by `done`, or by `back`.
+    pub fn end(&mut self, lease: Lease, end: End) -> Result<(), (Refusal, Lease)>
+        ensures does { Step (handed_in end lease result) (meaning D.Discipline self.old) (meaning D.Discipline self.new) }
+        ensures answers { result ≡ done_rule (meaning D.Discipline self.old) lease }
+        ensures unspent { IfErr result (λ refused. refused.1 ≡ lease) }
+        ensures time { OnOk result ((meaning D.Discipline self.new).accounts.clock ≡ (meaning D.Discipline self.old).accounts.clock + 1) }
+    {
+        match end {
+            End::Done => self.done(lease),
+            End::Back => self.back(lease),
+        }
     }
 
     // The tick ends as an empty one. Refused, in this order: a lease that is out, the clock's end,

@@ -4,6 +4,7 @@
 pub mod accounts;
 pub mod book;
 mod calls;
+pub mod ending;
 pub mod lease;
 pub mod line;
 mod questions;
@@ -11,6 +12,7 @@ pub mod run;
 #[cfg(test)]
 mod tests;
 
+pub use ending::End;
 pub use lease::Lease;
 pub use line::Line;
 pub use run::Run;

@@ -9,4 +9,4 @@ pub mod ticks;
 pub use after::After;
 pub use answer::Answer;
 pub use figures::{Figures, Summary};
-pub use ticks::{End, TickReport, Ticked, tick};
+pub use ticks::{TickReport, Ticked, tick};

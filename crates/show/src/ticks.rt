@@ -2,7 +2,6 @@
 // error of the output can never lose one.
 ghost use Rattle.std.specs.Prelude.{◌≡◌, ◌+◌, IfOk, OnOk, OnErr};
 ghost use Rattle.run.specs.Runs.{meaning};
-ghost use Rattle.run.specs.Steps.{done_rule};
 ghost use Rattle.show.specs.Shown.{figures_of};
 
 use crate::after::After;
@@ -10,15 +9,8 @@ use crate::answer::Answer;
 use crate::figures::Figures;
 use discipline::Discipline;
 use refusal::Refusal;
-use run::{Lease, Run};
+use run::{End, Run};
 use std::fmt;
-
-// How a tick ends: with a unit done on the leased job, or lost.
-#[derive(Clone, Copy)]
-pub enum End {
-    Done,
-    Back,
-}
 
 // What was answered in a tick, and the figures after each answer: the lease, a job that tried to
 // enter while the lease was out, and the end.
@@ -41,16 +33,6 @@ fn enter_late<D: Discipline>(run: &mut Run<D>, name: Option<&str>) -> Option<Aft
     }
 }
 
-fn hand_in<D: Discipline>(run: &mut Run<D>, lease: Lease, end: End) -> Result<(), (Refusal, Lease)>
-    ensures answers { result ≡ done_rule (meaning D.Discipline run.old) lease }
-    ensures time { OnOk result ((meaning D.Discipline run.new).accounts.clock ≡ (meaning D.Discipline run.old).accounts.clock + 1) }
-{
-    match end {
-        End::Done => run.done(lease),
-        End::Back => run.back(lease),
-    }
-}
-
 // A tick that ends so, in which a job of size 1 and the name `late`, if one is given, tries to enter while the lease is out.
 // Refused where the run gives no lease.
 pub fn tick<D: Discipline>(
@@ -66,7 +48,7 @@ pub fn tick<D: Discipline>(
     let job = lease.job();
     let taken = Figures::of(run);
     let late = enter_late(run, late);
-    let Ok(()) = hand_in(run, lease, end) else {
+    let Ok(()) = run.end(lease, end) else {
         unreachable()
     };
     Ok(Ticked {
@@ -76,15 +58,6 @@ pub fn tick<D: Discipline>(
         end,
         ended: Figures::of(run),
     })
-}
-
-impl fmt::Display for End {
-    fn fmt<W: fmt::Write>(&self, f: &mut fmt::Formatter<W>) -> fmt::Result {
-        f.write_str(match self {
-            End::Done => "done",
-            End::Back => "back",
-        })
-    }
 }
 
 // A tick, or why the run gave no lease, as it is printed.

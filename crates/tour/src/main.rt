@@ -4,8 +4,8 @@
 mod side_by_side;
 
 use queues::{Quantum, RoundRobin};
-use run::Run;
-use show::{After, Answer, End, Summary, TickReport, tick};
+use run::{End, Run};
+use show::{After, Answer, Summary, TickReport, tick};
 use side_by_side::side_by_side;
 use std::io;
 

@@ -6,8 +6,8 @@ mod stray;
 
 use print::{enter, pass, sojourn, summary, tick};
 use queues::Fcfs;
-use run::Run;
-use show::{After, Answer, End, Figures};
+use run::{End, Run};
+use show::{After, Answer, Figures};
 use std::io;
 use stray::stray;
 

@@ -1,7 +1,7 @@
 // Actions on a run, each printed on a line with its answer and the figures after it.
 use discipline::Discipline;
-use run::Run;
-use show::{After, Answer, End, Summary, TickReport};
+use run::{End, Run};
+use show::{After, Answer, Summary, TickReport};
 use std::io;
 
 // A job tries to enter.
