@@ -1,9 +1,6 @@
 // The console program: prints the lines of the trace on standard input and their numbers, or why it is refused.
 #![tactic(auto)]
 
-ghost use Rattle.trace.specs.Answers.{TraceRead};
-ghost use Rattle.trace.specs.declared.whole.Counts.{Counts};
-
 use std::io;
 use std::io::{BufWriter, Read, Write};
 use trace::line::LineTokens;
@@ -28,28 +25,25 @@ fn print_line<W: Write>(out: &mut W, place: usize, line: &LineTokens) -> io::Res
     }
 }
 
-// Every line of an accepted trace, none of which is refused.
-fn print_lines<W: Write>(out: &mut W, trace: &[u8]) -> io::Result<()>
-    requires { (counts : Counts) × TraceRead trace.now counts }
-{
-    for line in Lines::new(trace) {
-        let (line, place) = line.unwrap();
-        print_line(out, place, &line)?;
+// Every line of a trace that is accepted, and how many there are; otherwise why it is refused.
+fn report<W: Write>(out: &mut W, trace: &[u8]) -> io::Result<()> {
+    match whole_trace(trace) {
+        Ok(Counts { jobs, lines }) => {
+            for line in Lines::new(trace) {
+                let (line, place) = line.unwrap();
+                print_line(out, place, &line)?;
+            }
+            writeln!(out, "jobs {jobs} lines {lines}")
+        }
+        Err(refused) => writeln!(out, "{refused}"),
     }
-    Ok(())
 }
 
 fn run(rt: &HostRuntime) -> io::Result<()> {
     let mut trace = Vec::new(rt.alloc());
     rt.stdin().take(MAX_READ).read_to_end(&mut trace)?;
     let mut out = BufWriter::new(rt.alloc(), rt.stdout())?;
-    match whole_trace(&trace) {
-        Ok(Counts { jobs, lines }) => {
-            print_lines(&mut out, &trace)?;
-            writeln!(out, "jobs {jobs} lines {lines}")?;
-        }
-        Err(refused) => writeln!(out, "{refused}")?,
-    }
+    report(&mut out, &trace)?;
     out.flush()
 }
 

@@ -1,5 +1,5 @@
 use Rattle.trace.specs.Walk.{Ahead}
-use Rattle.safunwe.proofs.print_lines.Given as goal
+use Rattle.safunwe.proofs.report.Given as goal
 
 abbrev pub invariant-loop-line : goal.invariant-loop-line
 invariant-loop-line g l = Ahead l.line-iterator
