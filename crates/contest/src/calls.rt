@@ -8,7 +8,7 @@ pub enum Hand {
     Stray,
 }
 
-// A call on a run.
+// A call on a run: data and not a closure, since the theorem speaks of lists of calls.
 #[derive(Clone, Copy)]
 pub enum Call<'a> {
     Enter { name: &'a [u8], size: u32 },

@@ -3,6 +3,7 @@ ghost use Rattle.std.specs.Prelude.{◌≡◌, ℕ, Bool};
 ghost use Rattle.heap.specs.Order.{Ordered};
 
 // A kind of key. Whoever implements it owes the order law; the heap is proved from that law alone.
+// An order of its own and not `Ord`, which would ask more: nothing is said of two different keys with one handle.
 pub trait Key: Copy {
     ghost handle_of: { Self → ℕ };
 

@@ -10,6 +10,8 @@ use crate::{MAX_KEYS, change};
 use refusal::Refusal;
 
 // The keys held are the first `len`; that they are in order stands in the type, so no call asks anything. The capacity is 1,024.
+// Arrays with a count beside them, since no call may fail for want of memory. The calls go to `change` and not through an
+// `IndexedHeap` over these arrays: tried, and the check does not tie an array of a type parameter to what that heap left there.
 #[derive(Drop)]
 pub struct Ranking<K: Key> {
     pub(crate) keys: [K; MAX_KEYS],

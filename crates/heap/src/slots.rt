@@ -12,7 +12,7 @@ pub(crate) fn handle_at<K: Key>(keys: &[K], i: usize) -> usize
     keys[i].handle() as usize
 }
 
-// Tells the place of a handle's key.
+// Tells the place of a handle's key. A place is below 1,024, so `as` loses nothing.
 pub(crate) fn tell(places: &mut [u16], handle: usize, place: usize)
     requires { (handle < length places.old) × (place < 1024) }
     ensures { places.new ≡ slice_set places.old handle place }

@@ -6,7 +6,8 @@ ghost use Rattle.job.specs.Rules.{good_size};
 
 pub mod name;
 
-// How many jobs there may be; they are numbered from 0.
+// How many jobs there may be; they are numbered from 0. A number is a `u32` and an index a `usize`: std has no `From` between
+// the two, so `as` stands where one becomes the other, always below this bound or beside a test of it.
 pub const MAX_JOBS: usize = 1024;
 
 // The most units of work that a job has.

@@ -39,7 +39,7 @@ impl Name {
         len: 1,
     };
 
-    // The name that some bytes spell, or none where they break the rule of names.
+    // The name that some bytes spell, or none where they break the rule of names. (`TryFrom` would say no more than this name.)
     pub fn new(bytes: &[u8]) -> Option<Name>
         ensures keeps { result ≡ (if good_name bytes.now then Some (name_of bytes.now) else None) }
         ensures spells { IfSome result (λ name. spelled name ≡ bytes.now) }

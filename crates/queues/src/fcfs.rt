@@ -10,6 +10,7 @@ use crate::service::Service;
 #[derive(Drop)]
 pub struct FirstCome;
 
+// `LastCome` has two of these bodies too: as provided methods they would have to be proved for every service.
 impl Service for FirstCome {
     ghost rule = { λ _. fcfs };
 

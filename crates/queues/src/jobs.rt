@@ -9,6 +9,7 @@ use job::{MAX_JOBS, is_size};
 use refusal::Refusal;
 
 // The left work of each job by its number, and the jobs that have some in a row: each once.
+// A table in place, since no call may fail for want of memory.
 #[derive(Drop)]
 pub(crate) struct Jobs {
     pub(crate) left: [u32; MAX_JOBS],

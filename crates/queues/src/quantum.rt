@@ -18,7 +18,7 @@ impl Quantum {
     ghost use Rattle.refusal.specs.Answers.{provided};
     ghost use Rattle.queues.specs.Quanta.{good_quantum, units_in};
 
-    // A quantum of so many units. Refused: 0, and above 10,000. O(1).
+    // A quantum of so many units. Refused: 0, and above 10,000. O(1). (`TryFrom` would say no more than this name.)
     pub fn new(units: u32) -> Result<Quantum, Refusal>
         ensures { units_in result ≡ provided (good_quantum units) Refusal.Quantum (Ok units) }
     {

@@ -57,6 +57,7 @@ impl<D: Discipline> Run<D> {
     pub fn longest(&self) -> u32
         ensures { result ≡ longest_of (take (meaning D.Discipline self.now).book.entered (meaning D.Discipline self.now).book.lines) }
     {
+        // A `for` and no `map`: what `sojourn` asks is known of a line by its place, which a closure is not told.
         let mut longest = 0;
         for line in &self.book.lines[0..self.book.entered] {
             longest = longest.max(line.sojourn());

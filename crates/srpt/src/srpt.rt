@@ -52,6 +52,7 @@ impl Srpt {
         self.tell(number, left);
     }
 
+    // (Apart from `serve`: joined with it, the search comes too near its bounds.)
     // Tells the ranking of that unit: the job's key has one unit less, and a job without any left has no key.
     fn tell(&mut self, number: u32, left: u32)
         requires { (number < 1024) × (0 < left) × (left_in (keys_of self.old.ranking number) ≡ left) }

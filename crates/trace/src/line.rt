@@ -94,7 +94,8 @@ fn tokens<'a>(line: Span<'a>) -> Option<LineTokens<'a>>
     }
 }
 
-// The tokens of the line that stands at a place, whatever it says, and the place of the next one.
+// The tokens of the line that stands at a place, whatever it says, and the place of the next one. Trace and place come as two, as
+// the public call has them: that nothing stands at the place is one of its answers, and a span would say that something does.
 fn line_found<'a>(trace: &'a [u8], place: usize) -> Option<(LineTokens<'a>, usize)>
     ensures { MatchOption result ((l : Line) → Stands trace.now place l → ⊥) (λ x. LineFound trace.now place x.0 x.1) }
 {
