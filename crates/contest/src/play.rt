@@ -59,7 +59,8 @@ impl<D: Discipline> Side<D> {
         self.run.pass().map(|()| Reply::Accepted)
     }
 
-    // Hands in the run's own lease, or the stray one.
+    // Hands in the run's own lease, or the stray one. By value, as the lease moves in and out. (The last two arms have one body: their
+    // proofs differ, in why the stray one is handed in.)
     fn end_tick(self, stray: Lease, end: End, hand: Hand) -> (Side<D>, Answer, Lease)
         requires { stray.mark ≢ mark_of self }
         ensures plays { Plays D.Discipline self (handing_in end hand) result.1 result.0 }

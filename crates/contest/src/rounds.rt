@@ -8,7 +8,7 @@ use discipline::Discipline;
 use run::Lease;
 
 impl<'a> Round<'a> {
-    // A round that is yet to be made.
+    // A round that is yet to be made: `contest` writes both outcomes over. No `Option`, since whoever reads a round reads a made one.
     pub fn of(call: Call<'a>) -> Round<'a>
         ensures { result.call ≡ call.entry }
     {

@@ -26,7 +26,7 @@ pub trait Discipline {
         ensures empties { present self.new ≡ replicate 1024 0 }
         ensures moved { moves cleared self.old self.new };
 
-    // Job `number` is present from now on, with `size` units left. Refused, in this order: a number
+    // Job `number` is present from now on, with `size` units left. (The two are the call's own; a pair would be made and taken apart at once.) Refused, in this order: a number
     // above 1,023, a size that no job has, a job that is present already.
     fn admit(&mut self, number: u32, size: u32) -> Result<(), Refusal>
         ensures answers { result ≡ admit_answer (present self.old) number size }
@@ -46,7 +46,7 @@ pub trait Discipline {
         ensures keeps { KeptIfRefused result (choice self.old) (choice self.new) }
         ensures moved { IfOk result (λ left. moves (served number left) self.old self.new) };
 
-    // The left work of job `number`, 0 for one that is not present. Refused: a number above 1,023.
+    // The left work of job `number`, 0 for one that is not present (a 0, as the rules of the project have it). Refused: a number above 1,023.
     fn left(&self, number: u32) -> Result<u32, Refusal>
         ensures { result ≡ left_answer (present self.now) number };
 

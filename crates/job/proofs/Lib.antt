@@ -1,2 +1,3 @@
+mod Scanning
 pub mod Keeping
 pub mod Sizes

@@ -12,10 +12,16 @@ fn is_name_byte(byte: u8) -> bool
     matches!(byte, b'a'..=b'z' | b'0'..=b'9' | b'-')
 }
 
+// A `for` and no `all`: the rules of the project name this form.
 fn are_name_bytes(bytes: &[u8]) -> bool
     ensures { result ≡ name_bytes bytes.now }
 {
-    bytes.iter().all(|byte| is_name_byte(*byte))
+    for byte in bytes {
+        if !is_name_byte(*byte) {
+            return false;
+        }
+    }
+    true
 }
 
 // Whether some bytes are a name: 1 to 8 of them, each a to z, 0 to 9 or a hyphen.
@@ -47,6 +53,7 @@ impl Name {
         if !is_name(bytes) {
             return None;
         }
+        // At most 8 bytes, so `as` loses nothing below.
         let mut kept = [0; MAX_NAME];
         kept[0..bytes.len()].copy_from_slice(bytes);
         Some(Name {

@@ -5,8 +5,8 @@ use Rattle.discipline.specs.Meaning.{Move, cleared, admitted, worked}
 use Rattle.discipline.specs.declared.Discipline.{Ghosts}
 use Rattle.queues.specs.declared.row_discipline.RowDiscipline.{RowDiscipline}
 use Rattle.queues.specs.declared.service.Service.{Ghosts as Serving}
-use Rattle.queues.specs.Disciplines.{Fcfs, fcfs-ghosts, order_of, reordered}
-use Rattle.queues.specs.Queues.{Queue, queue, round_robin, moved}
+use Rattle.queues.specs.Disciplines.{Fcfs, fcfs-ghosts, lcfs-ghosts, round-ghosts, order_of, reordered}
+use Rattle.queues.specs.Queues.{Queue, queue, fcfs, lcfs, round_robin, moved}
 use Rattle.queues.specs.Rows.{first_of}
 use Rattle.queues.specs.Views.{queue_of}
 use Rattle.queues.specs.Follows.{Follows}
@@ -14,6 +14,13 @@ use Rattle.queues.specs.Follows.{Follows}
 -- A row discipline under the service s follows the queue that is read off it.
 abbrev pub RowDisciplinesFollow : {S : Type 0} → Serving S → Ghosts (RowDiscipline S) → Type 0
 RowDisciplinesFollow s d = Follows d (queue_of s)
+
+-- In full for the three: FCFS has its own rule over its row, LCFS its own, and round robin its quantum and its turn.
+abbrev pub ThreeFollow : Type 0
+ThreeFollow =
+    Follows fcfs-ghosts (λ d. queue fcfs d.jobs.row 0)
+    × Follows lcfs-ghosts (λ d. queue lcfs d.jobs.row 0)
+    × Follows round-ghosts (λ d. queue (round_robin d.service.quantum.units) d.jobs.row d.service.turn)
 
 -- Under FCFS each call moves the order of admission as it should, and the choice is the front of it.
 abbrev pub FcfsKeepsOrder : Type 0

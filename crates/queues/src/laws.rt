@@ -1,13 +1,14 @@
 // Laws of the disciplines that keep a row: what a contract says here is a theorem, and its body computes nothing.
-ghost use Rattle.queues.specs.Laws.{RowDisciplinesFollow, FcfsKeepsOrder, FullTurnGoesBehind};
+ghost use Rattle.queues.specs.Laws.{RowDisciplinesFollow, ThreeFollow, FcfsKeepsOrder, FullTurnGoesBehind};
 
 use crate::row_discipline::RowDiscipline;
 use crate::service::Service;
 use discipline::Discipline;
 
-// A law: under each service, those of FCFS, LCFS and round robin among them, a row discipline chooses and moves as the queue that is read off it.
+// A law: under each service a row discipline chooses and moves as the queue that is read off it; in full for FCFS, LCFS and round robin.
 pub fn row_disciplines_follow<S: Service>()
-    ensures { RowDisciplinesFollow S.Service ⟦<RowDiscipline<S> as Discipline>⟧ }
+    ensures each { RowDisciplinesFollow S.Service ⟦<RowDiscipline<S> as Discipline>⟧ }
+    ensures three { ThreeFollow }
 {}
 
 // A law: under FCFS a job that is admitted comes last, a finished one leaves, nobody else moves, and the choice is the front.

@@ -52,7 +52,7 @@ impl<S: Service> Discipline for RowDiscipline<S> {
 
     ghost sound = { λ d. record { long = d.jobs.long; fits = d.jobs.fits; chosen = rule_chosen (S.rule d.service) d.jobs.row d.jobs.left d.jobs.once } };
 
-    // Lets everybody go. Never refused. O(1,024): the whole table of left work is written over.
+    // Lets everybody go. Never refused. O(1,024): the table of left work and the row are written over.
     fn clear(&mut self) {
         self.jobs = Jobs::new();
         self.service.clear();

@@ -5,14 +5,15 @@ use Rattle.std.proofs.lemmas.List.Sums.{count_by-le-length}
 use Rattle.std.proofs.lemmas.List.{get_or_past}
 use Rattle.std.proofs.lemmas.Bool.{cases_lt, ltb-true}
 use Rattle.refusal.specs.declared.Refusal.{Refusal}
-use Rattle.refusal.specs.declared.Refusal.TheVariants.{LeaseOut, ClockEnd}
+use Rattle.refusal.specs.declared.Refusal.TheVariants.{LeaseOut, ClockEnd, NotTheLease}
 use Rattle.refusal.specs.Answers.{provided}
 use Rattle.refusal.proofs.Accepted.{provided_ok}
 use Rattle.discipline.specs.Meaning.{Sound, choose_answer, count_present}
 use Rattle.run.specs.declared.accounts.Accounts.{Accounts}
+use Rattle.run.specs.declared.accounts.Call.TheVariants.{Pass, HandIn}
 use Rattle.run.specs.declared.book.Book.{Book}
 use Rattle.run.specs.Kept.{lease_kept, LinesKept, FiguresKept}
-use Rattle.run.specs.Steps.{tick_answer, is_free, is_out_on, is_the_lease, before_end, ended}
+use Rattle.run.specs.Steps.{may_answer, is_free, is_out_on, is_the_lease, before_end, ended}
 
 -- ---- what the meaning of a discipline gives a run
 
@@ -59,10 +60,14 @@ module _ (a : Accounts) (p : List ℕ) (m t j : ℕ) (kept : lease_kept a.lease 
   pub hand_tick : a.clock ≡ t
   hand_tick = grind (arith, nat_tests)
 
--- ---- a tick that may be begun with no lease out
+-- a lease that may be handed in is the one that is out
+pub hand_ours : (a : Accounts) (m t j : ℕ) (u : Unit {0}) → ◌≡◌ {A = Result (Unit {0}) Refusal} (Ok u) (may_answer a (HandIn m t j)) → is_the_lease a m t j ≡ true
+hand_ours a m t j u e = (provided_ok (is_the_lease a m t j) NotTheLease (Ok tt) u e).0
 
-pub tick_clock : (a : Accounts) (u : Unit {0}) → ◌≡◌ {A = Result (Unit {0}) Refusal} (Ok u) (tick_answer a) → a.clock < 16777215
-tick_clock a u e =
+-- ---- a tick that may end with no lease out
+
+pub pass_clock : (a : Accounts) (u : Unit {0}) → ◌≡◌ {A = Result (Unit {0}) Refusal} (Ok u) (may_answer a Pass) → a.clock < 16777215
+pass_clock a u e =
     let b = provided_ok (is_free a.lease) LeaseOut (provided (before_end a) ClockEnd (Ok tt)) u e in
     ltb-true a.clock 16777215 (provided_ok (before_end a) ClockEnd (Ok tt) u b.1).0
 

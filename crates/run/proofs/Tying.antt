@@ -6,11 +6,12 @@ use Rattle.discipline.specs.Meaning.{Sound}
 use Rattle.discipline.proofs.Admitted.{zero_at}
 use Rattle.run.specs.declared.book.Book.{Book}
 use Rattle.run.specs.declared.accounts.Accounts.{Accounts}
+use Rattle.run.specs.declared.accounts.Call.TheVariants.{Enter}
 use Rattle.run.specs.declared.line.Line.{Line}
 use Rattle.job.specs.Names.{name_of}
 use Rattle.run.specs.Lines.{unused, lefts, new_line, worked_line}
 use Rattle.run.specs.States.{State, Tied, Leased}
-use Rattle.run.specs.Steps.{free_answer, is_free, blank_book, enter_after, done_after, idled, made_with}
+use Rattle.run.specs.Steps.{may_answer, is_free, blank_book, enter_after, done_after, idled, made_with}
 use Rattle.run.specs.Histories.{Event, enter, take, done, back, pass, Step}
 use Rattle.refusal.specs.declared.Refusal.{Refusal}
 use Rattle.refusal.specs.declared.Refusal.TheVariants.{LeaseOut}
@@ -99,7 +100,7 @@ made_state p c b a e f h = cc
 -- ---- a run, by its type
 
 -- no job is leased while the run is free
-pub free_held : (a : Accounts) (p : List ℕ) (u : Unit {0}) → ◌≡◌ {A = Result (Unit {0}) Refusal} (Ok u) (free_answer a) → lease_kept a.lease p a.clock ≡ true
+pub free_held : (a : Accounts) (p : List ℕ) (u : Unit {0}) → ◌≡◌ {A = Result (Unit {0}) Refusal} (Ok u) (may_answer a Enter) → lease_kept a.lease p a.clock ≡ true
 free_held a p u e = by a.lease (provided_ok (is_free a.lease) LeaseOut (Ok tt) u e).0
   where
     by : (o : Option ℕ) → is_free o ≡ true → lease_kept o p a.clock ≡ true

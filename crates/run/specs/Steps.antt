@@ -10,6 +10,8 @@ use Rattle.discipline.specs.Meaning.{count_present}
 use Rattle.run.specs.declared.book.Book.{Book}
 use Rattle.run.specs.declared.lease.Lease.{Lease}
 use Rattle.run.specs.declared.accounts.Accounts.{Accounts}
+use Rattle.run.specs.declared.accounts.Call.{Call}
+use Rattle.run.specs.declared.accounts.Call.TheVariants.{Enter, Take, Pass, HandIn}
 use Rattle.run.specs.Lines.{unused, worked_line, new_line}
 use Rattle.run.specs.States.{State}
 
@@ -33,13 +35,12 @@ is_the_lease a m t j = a.mark == m && (a.clock == t && is_out_on a.lease j)
 abbrev pub before_end : Accounts → Bool
 before_end a = nat_lt a.clock 16777215
 
--- What is answered while a lease is out.
-abbrev pub free_answer : Accounts → Result (Unit {0}) Refusal
-free_answer a = provided (is_free a.lease) LeaseOut (Ok tt)
-
--- Whether a tick can be begun.
-abbrev pub tick_answer : Accounts → Result (Unit {0}) Refusal
-tick_answer a = provided (is_free a.lease) LeaseOut (provided (before_end a) ClockEnd (Ok tt))
+-- Whether a call may go on while the lease is as it is.
+abbrev pub may_answer : Accounts → Call → Result (Unit {0}) Refusal
+may_answer a Enter = provided (is_free a.lease) LeaseOut (Ok tt)
+may_answer a Take = provided (is_free a.lease) LeaseOut (provided (before_end a) ClockEnd (Ok tt))
+may_answer a Pass = provided (is_free a.lease) LeaseOut (provided (before_end a) ClockEnd (Ok tt))
+may_answer a (HandIn m t j) = provided (is_the_lease a m t j) NotTheLease (Ok tt)
 
 -- A tick ends with n jobs present: n is added to the total, most is raised to it, and the clock rises by one.
 abbrev pub ended : Accounts → ℕ → Accounts

@@ -1,12 +1,20 @@
 // The accounts of a run: its mark, its clock, its figures, and the lease that is out.
 ghost use Rattle.std.specs.Prelude.{◌≡◌, ◌+◌, ◌^◌, ◌<◌};
-ghost use Rattle.run.specs.Steps.{free_answer, tick_answer, is_the_lease, ended};
+ghost use Rattle.run.specs.Steps.{may_answer, ended};
 
-use crate::lease::Lease;
 use refusal::Refusal;
 
 // The clock never passes this tick.
 const LAST_TICK: u32 = 16_777_215;
+
+// What is asked of the accounts before a call goes on.
+#[derive(Clone, Copy)]
+pub(crate) enum Call {
+    Enter,
+    Take,
+    Pass,
+    HandIn { mark: u16, tick: u32, job: u32 },
+}
 
 // `lease` is the job of the lease that is out, if one is.
 #[derive(Clone, Copy)]
@@ -19,33 +27,20 @@ pub struct Accounts {
 }
 
 impl Accounts {
-    // Refused while a lease is out.
-    pub(crate) fn is_free(&self) -> Result<(), Refusal>
-        ensures { result ≡ free_answer self.now }
+    // Whether a call may go on while the lease is as it is. A match on that and the call together: the rules of the project
+    // name this form.
+    pub(crate) fn may(&self, call: Call) -> Result<(), Refusal>
+        ensures { result ≡ may_answer self.now call }
     {
-        match self.lease {
-            Some(_) => Err(Refusal::LeaseOut),
-            None => Ok(()),
+        match (self.lease, call) {
+            (Some(_), Call::Enter | Call::Take | Call::Pass) => Err(Refusal::LeaseOut),
+            (None, Call::Enter) => Ok(()),
+            (None, Call::Take | Call::Pass) if self.clock < LAST_TICK => Ok(()),
+            (None, Call::Take | Call::Pass) => Err(Refusal::ClockEnd),
+            (Some(out), Call::HandIn { mark, tick, job })
+                if self.mark == mark && self.clock == tick && out == job => { Ok(()) }
+            (_, Call::HandIn { .. }) => Err(Refusal::NotTheLease),
         }
-    }
-
-    // Whether a tick can be begun: refused while a lease is out, and then at the clock's end.
-    pub(crate) fn may_tick(&self) -> Result<(), Refusal>
-        ensures { result ≡ tick_answer self.now }
-    {
-        self.is_free()?;
-        if self.clock < LAST_TICK {
-            Ok(())
-        } else {
-            Err(Refusal::ClockEnd)
-        }
-    }
-
-    // Whether a lease is the one that is out.
-    pub(crate) fn gave(&self, lease: &Lease) -> bool
-        ensures { result ≡ is_the_lease self.now lease.now.mark lease.now.tick lease.now.job }
-    {
-        self.mark == lease.mark && self.clock == lease.tick && self.lease == Some(lease.job)
     }
 
     // A tick ends with so many jobs present.

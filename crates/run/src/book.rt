@@ -8,7 +8,8 @@ use job::MAX_JOBS;
 use job::name::Name;
 use refusal::Refusal;
 
-// An array with a count beside it, since no call of a run may fail for want of memory.
+// An array with a count beside it, since no call of a run may fail for want of memory. That it is 1,024 long is asked by the calls below
+// and kept by `Run`: the definitions of runs make books, and could not make one with a fact in its type.
 #[derive(Drop)]
 pub struct Book {
     pub(crate) lines: [Line; MAX_JOBS],

@@ -1,13 +1,14 @@
 // The calls of a run.
 ghost use Rattle.std.specs.Prelude.{◌≡◌, ◌+◌, ◌-◌, ◌<◌, IfOk, IfErr, Ok, OnOk, slice_index};
 ghost use Rattle.discipline.specs.Meaning.{cleared, admitted, worked};
+ghost use Rattle.run.specs.declared.accounts.Call.TheVariants.{HandIn};
 ghost use Rattle.run.specs.States.{Tied};
 ghost use Rattle.run.specs.Steps.{Enters, Takes, Dones, Backs, Passes, done_rule, made_with};
 ghost use Rattle.run.specs.Histories.{Step, handed_in};
 ghost use Rattle.run.specs.Laws.{AlwaysLawful};
 ghost use Rattle.run.specs.Runs.{meaning, discipline_of, Untouched, UntouchedIfRefused, Moves};
 
-use crate::accounts::Accounts;
+use crate::accounts::{Accounts, Call};
 use crate::book::Book;
 use crate::ending::End;
 use crate::lease::Lease;
@@ -16,6 +17,18 @@ use discipline::Discipline;
 use job::name::Name;
 use job::{MAX_JOBS, is_size};
 use refusal::Refusal;
+
+impl From<&Lease> for Call {
+    ghost from_gives = { λ lease call. call ≡ HandIn lease.now.mark lease.now.tick lease.now.job };
+
+    fn from(lease: &Lease) -> Call {
+        Call::HandIn {
+            mark: lease.mark,
+            tick: lease.tick,
+            job: lease.job,
+        }
+    }
+}
 
 impl<D: Discipline> Run<D> {
     // A run with no job yet, over a discipline that it clears first. Whatever calls follow, it is lawful.
@@ -52,7 +65,7 @@ impl<D: Discipline> Run<D> {
         let Some(name) = Name::new(name) else {
             return Err(Refusal::Name);
         };
-        self.accounts.is_free()?;
+        self.accounts.may(Call::Enter)?;
         let number = self.book.entered;
         if number >= MAX_JOBS {
             return Err(Refusal::BookFull);
@@ -72,8 +85,10 @@ impl<D: Discipline> Run<D> {
         ensures ends { IfOk result (λ lease. lease.tick < 16777215) }
         ensures stays { Untouched self.old self.new }
     {
-        self.accounts.may_tick()?;
-        let job = self.discipline.choose()?;
+        self.accounts.may(Call::Take)?;
+        let Ok(job) = self.discipline.choose() else {
+            return Err(Refusal::Nobody);
+        };
         self.accounts.lease = Some(job);
         Ok(Lease {
             mark: self.accounts.mark,
@@ -83,15 +98,15 @@ impl<D: Discipline> Run<D> {
     }
 
     // The tick ends as a worked one, one unit done on the leased job. Refused, and the lease given
-    // back, unless it is the one that is out.
+    // back, unless it is the one that is out. (The cause and the lease are a pair, and no type of their own: whoever is refused takes both apart.)
     pub fn done(&mut self, lease: Lease) -> Result<(), (Refusal, Lease)>
         ensures does { Dones (meaning D.Discipline self.old) lease result (meaning D.Discipline self.new) }
         ensures unspent { IfErr result (λ refused. refused.1 ≡ lease) }
         ensures moves { OnOk result (Moves D.Discipline (worked lease.job (slice_index (meaning D.Discipline self.old).present lease.job - 1)) self.old self.new) }
         ensures stays { UntouchedIfRefused self.old result self.new }
     {
-        if !self.accounts.gave(&lease) {
-            return Err((Refusal::NotTheLease, lease));
+        if let Err(cause) = self.accounts.may(Call::from(&lease)) {
+            return Err((cause, lease));
         }
         let present = self.present();
         let Ok(_) = self.discipline.worked(lease.job) else {
@@ -109,8 +124,8 @@ impl<D: Discipline> Run<D> {
         ensures unspent { IfErr result (λ refused. refused.1 ≡ lease) }
         ensures stays { Untouched self.old self.new }
     {
-        if !self.accounts.gave(&lease) {
-            return Err((Refusal::NotTheLease, lease));
+        if let Err(cause) = self.accounts.may(Call::from(&lease)) {
+            return Err((cause, lease));
         }
         lease.spend();
         let present = self.present();
@@ -137,7 +152,7 @@ impl<D: Discipline> Run<D> {
         ensures does { Passes (meaning D.Discipline self.old) result (meaning D.Discipline self.new) }
         ensures stays { Untouched self.old self.new }
     {
-        self.accounts.may_tick()?;
+        self.accounts.may(Call::Pass)?;
         let present = self.present();
         if present > 0 {
             return Err(Refusal::Somebody);

@@ -1,4 +1,4 @@
-// The lease: the right to end one tick of a run. It is handed in, once, to `done` or to `back`.
+// The lease: the right to end one tick of a run. It is handed in, once, to `done` or to `back` (or to `end`, which is one of them).
 ghost use Rattle.std.specs.Prelude.{◌≡◌, ◌≤◌};
 
 // Only a run gives one out, and only handing it in spends it.

@@ -5,7 +5,7 @@ ghost use Rattle.run.specs.Lines.{worked_line, sojourn_of};
 use job::name::Name;
 
 // What the book keeps of one job. `left` is the work that is not done yet; `finish` is the tick in
-// which the last unit was done, and 0 until then.
+// which the last unit was done, and 0 until then: a 0 and no `Option`, as the rules of the project have it.
 #[derive(Clone, Copy)]
 pub struct Line {
     pub name: Name,

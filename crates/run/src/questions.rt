@@ -36,7 +36,12 @@ impl<D: Discipline> Run<D> {
     pub fn unfinished(&self) -> u32
         ensures { result ≡ unfinished_work (meaning D.Discipline self.now).book }
     {
-        self.book.lines.iter().map(|line| line.left).sum()
+        // A `for` and no `sum`: the rules of the project name this form.
+        let mut sum = 0;
+        for line in &self.book.lines {
+            sum += line.left;
+        }
+        sum
     }
 
     // The occupancy total: the jobs present, summed over the ticks that have ended.

@@ -1,6 +1,7 @@
-use Rattle.std.proofs.Common.{sym}
+use Rattle.std.proofs.Common.{ap, ◌∙◌}
+use Rattle.run.specs.Steps.{may_answer}
 use Rattle.run.proofs.Keeping.{later_lines}
-use Rattle.run.proofs.Ended.{few_present, hand_clock, end_figures, end_lines, end_held}
+use Rattle.run.proofs.Ended.{few_present, hand_ours, hand_clock, end_figures, end_lines, end_held}
 use Rattle.run.proofs.run.Run.back.Goals as goal
 
 pub invariant_of-self : goal.invariant_of-self
@@ -12,11 +13,13 @@ invariant_of-self g c =
     let n = c.present-present.result in
     let few = few_present p n (g.met.D.Discipline.sound r.discipline).long c.present-present.ensures in
     let e = c.end.ensures in
+    let l = c.args.lease in
+    let ours = hand_ours a l.mark l.tick l.job c.in_default.field-0 (c.in_default.ensures ∙ ap (may_answer a) c.from.ensures) in
     record {
       agrees = r.agrees;
       long = r.long;
       many = r.many;
       lines = end_lines a a' n few e r.book (later_lines r.book a.clock r.lines);
-      figures = end_figures a a' n few e (hand_clock a p c.args.lease.mark c.args.lease.tick c.args.lease.job r.held (sym c.if-not-gave.ensures)) r.figures;
+      figures = end_figures a a' n few e (hand_clock a p l.mark l.tick l.job r.held ours) r.figures;
       held = end_held a a' n few e p;
     }

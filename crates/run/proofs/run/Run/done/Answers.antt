@@ -3,9 +3,9 @@ use Rattle.std.proofs.lemmas.List.{length-set}
 use Rattle.run.specs.declared.book.Book.{Book}
 use Rattle.run.specs.Lines.{unused, lefts, worked_line}
 use Rattle.run.specs.Kept.{LinesKept}
-use Rattle.run.specs.Steps.{book_worked}
+use Rattle.run.specs.Steps.{may_answer, book_worked}
 use Rattle.run.proofs.Keeping.{lefts_worked, worked_lines}
-use Rattle.run.proofs.Ended.{few_present, hand_clock, hand_tick, end_figures, end_lines, end_held}
+use Rattle.run.proofs.Ended.{few_present, hand_ours, hand_clock, hand_tick, end_figures, end_lines, end_held}
 use Rattle.run.proofs.run.Run.done.Goals as goal
 
 pub invariant_of-self : goal.invariant_of-self
@@ -19,7 +19,7 @@ invariant_of-self g c =
     let n = c.present-present.result in
     let few = few_present p n (g.met.D.Discipline.sound r.discipline).long c.present-present.ensures in
     let ended = c.end.ensures in
-    let ours = sym c.if-not-gave.ensures in
+    let ours = hand_ours a l.mark l.tick l.job c.in_default.field-0 (c.in_default.ensures ∙ ap (may_answer a) c.from.ensures) in
     let time = hand_clock a p l.mark l.tick l.job r.held ours in
     let e = sym (c.work.ensures ∙ ap (λ t. book_worked b l.job t) (sym (hand_tick a p l.mark l.tick l.job r.held ours))) in
     record {

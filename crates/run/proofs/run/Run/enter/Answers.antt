@@ -41,5 +41,5 @@ invariant_of-self g c =
       many = subst (λ (x : Book). x.entered ≤ 1024) e (omega arith);
       lines = subst (λ (x : Book). LinesKept x t) e (entered_lines b t z w low size name r.lines);
       figures = r.figures;
-      held = free_held r.accounts _ c.in_ok-is_free.field-0 c.in_ok-is_free.ensures;
+      held = free_held r.accounts _ c.in_ok-may.field-0 c.in_ok-may.ensures;
     }

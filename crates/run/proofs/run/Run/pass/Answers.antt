@@ -1,5 +1,5 @@
 use Rattle.run.proofs.Keeping.{later_lines}
-use Rattle.run.proofs.Ended.{few_present, tick_clock, end_figures, end_lines, end_held}
+use Rattle.run.proofs.Ended.{few_present, pass_clock, end_figures, end_lines, end_held}
 use Rattle.run.proofs.run.Run.pass.Goals as goal
 
 pub invariant_of-self : goal.invariant_of-self
@@ -16,6 +16,6 @@ invariant_of-self g c =
       long = r.long;
       many = r.many;
       lines = end_lines a a' n few e r.book (later_lines r.book a.clock r.lines);
-      figures = end_figures a a' n few e (tick_clock a c.in_ok-may_tick.field-0 c.in_ok-may_tick.ensures) r.figures;
+      figures = end_figures a a' n few e (pass_clock a c.in_ok-may.field-0 c.in_ok-may.ensures) r.figures;
       held = end_held a a' n few e p;
     }
