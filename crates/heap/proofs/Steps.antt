@@ -1,6 +1,7 @@
--- The steps of the two loops of a sift, and how each ends, with what `swap`, `handle_at` and `tell` ensure.
-use Rattle.std.proofs.Common.{◌≡◌, ℕ, ◌+◌, ◌-◌, ◌*◌, ◌/◌, ◌<◌, ◌≤◌, Bool, true, List, length, get_or, set, sym, ap, ◌∙◌, subst, ⊎_elim, arith}
-use Rattle.std.proofs.lemmas.List.{get_or-set_same, get_or-set_other, length-set}
+-- The steps of the two loops of a sift, and how each ends, with what `exchange`, `handle_at` and `tell` ensure.
+use Rattle.std.proofs.Common.{◌≡◌, ℕ, ◌+◌, ◌-◌, ◌*◌, ◌/◌, ◌<◌, ◌≤◌, Bool, true, List, length, get_or, set, sym, ap, subst, ⊎_elim, arith}
+use Rattle.std.specs.List.{SwappedAt}
+use Rattle.std.proofs.lemmas.List.{get_or_default, get_or-set_same, get_or-set_other, length-set}
 use Rattle.std.proofs.lemmas.List.Edits.{Swapped}
 use Rattle.std.proofs.lemmas.Bool.{cases_eq}
 use Rattle.heap.specs.Order.{Ordered}
@@ -53,13 +54,6 @@ module _ {K : Type 0} {handle : K → ℕ} {before : K → K → Bool} (o : Orde
       let low = was.low d i l in
       (omega (arith, low.2, named d), omega arith)
 
-  -- so can its place, for the key that has come there from i
-  pub tellable_here : (i r : ℕ) (ys : List K) → i < n → ((d : K) → get_or ys j d ≡ get_or xs i d) → ((d : K) → r ≡ handle (get_or ys j d)) → (r < length ps) × (j < 1024)
-  tellable_here i r ys l came named =
-      let in' = was.inside in
-      let few = was.few in
-      ((tellable i r l (λ d. named d ∙ ap handle (came d))).0, omega arith)
-
   next : (r : ℕ) → ((d : K) → r ≡ next_down before (λ m. get_or xs m d) n j) → (d : K) → Next before (λ m. get_or xs m d) n j r
   next r is d = next_is o (λ m. get_or xs m d) n j (are_apart d) r (is d) was.inside
 
@@ -85,16 +79,20 @@ module _ {K : Type 0} {handle : K → ℕ} {before : K → K → Bool} (o : Orde
       })
 
   -- one turn: it changes places with the key at y, whose new place is then told
-  module _ (ys : List K) (y r : ℕ) {qs : List ℕ} (long : length ys ≡ length xs) (came : (d : K) → get_or ys j d ≡ get_or xs y d) (went : (d : K) → get_or ys y d ≡ get_or xs j d) (rest : (k : ℕ) (d : K) → (k ≡ j → ⊥) → (k ≡ y → ⊥) → get_or ys k d ≡ get_or xs k d)
-      (named : (d : K) → r ≡ handle (get_or ys j d)) (put : qs ≡ set ps r j) where
+  module _ (ys : List K) (y : ℕ) {qs : List ℕ} (long : length ys ≡ length xs) (s : SwappedAt xs ys j y) (put : (d : K) → qs ≡ set ps (handle (get_or ys j d)) j) where
     swapped : (d : K) → Swapped (λ m. get_or xs m d) (λ m. get_or ys m d) j y
-    swapped d = (came d, went d, λ k u v. rest k d u v)
+    swapped d = (s.0 d, s.1 d, λ k u v. s.2 k d u v)
 
     moved : y < n → (j ≡ y → ⊥) → ((d : K) → Gap before (λ i. get_or ys i d) y n) → Sifting handle before ys qs n y × ((h : ℕ) → held handle ys n h ≡ held handle xs n h)
-    moved iny jy gap = (
-      subst (λ q. Sifting handle before ys q n y) (sym put) (step was ys y r iny jy long swapped named gap),
-      step_held was ys y r iny jy long swapped named,
-    )
+    moved iny jy gap =
+        let fits = was.fits in
+        let inside = was.inside in
+        let d = some_key handle ys (omega arith) in
+        let r = handle (get_or ys j d) in
+        let named : (e : K) → r ≡ handle (get_or ys j e) = λ e. ap handle (get_or_default ys j d e (omega arith)) in (
+          subst (λ q. Sifting handle before ys q n y) (sym (put d)) (step was ys y r iny jy long swapped named gap),
+          step_held was ys y r iny jy long swapped named,
+        )
 
     pub rise_step : 0 < j → y ≡ (j - 1) / 2 → ((d : K) → before (get_or xs j d) (get_or xs y d) ≡ true) → Sifting handle before ys qs n y × ((h : ℕ) → held handle ys n h ≡ held handle xs n h)
     rise_step pos up t =

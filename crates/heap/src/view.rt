@@ -1,5 +1,5 @@
 // What is read off a heap: these calls need no more than a shared loan of its memory, so that an owner can answer through `&self`.
-ghost use Rattle.std.specs.Prelude.{◌≡◌, ◌<◌, ◌≤◌, length, Some, slice_index_or};
+ghost use Rattle.std.specs.Prelude.{◌≡◌, ℕ, ◌<◌, ◌≤◌, List, length, Some, slice_index_or};
 ghost use Rattle.heap.specs.Held.{held, capacity, counted};
 ghost use Rattle.heap.specs.InOrder.{InOrder};
 ghost use Rattle.heap.specs.Answers.{First, Seated};
@@ -41,23 +41,14 @@ impl<'a, K: Key> View<'a, K> {
         ensures len { result ≡ self.now.len }
         ensures counts { result ≡ counted (seen self.now) 1024 }
     {
-        self.keeps_count();
-        self.len
+        count_of(self.keys, self.len)
     }
-
-    // A heap in order holds as many keys as it keeps: this is why a count need not be counted.
-    fn keeps_count(&self)
-        ensures { counted (seen self.now) 1024 ≡ self.now.len }
-    {}
 
     // The handle of the key that comes before all others; refused with `Nobody` where nothing is held. One step.
     pub fn first(&self) -> Result<u32, Refusal>
         ensures { First K.handle_of K.before (seen self.now) result }
     {
-        if self.len == 0 {
-            return Err(Refusal::Nobody);
-        }
-        Ok(self.keys[0].handle())
+        first_of(self.keys, self.len)
     }
 
     // The key with a handle, if it is held. One step.
@@ -86,3 +77,32 @@ impl<'a, K: Key> View<'a, K> {
         Ok(None)
     }
 }
+
+// For whoever has the keys and the count alone, and no places to make a view of: the calls `first` and `count`.
+
+// The handle of the key that comes before all others of a heap in order; refused with `Nobody` where there is none. One step.
+pub fn first_of<K: Key>(keys: &[K], n: usize) -> Result<u32, Refusal>
+    requires { (places : List ℕ) × InOrder K.handle_of K.before keys.now places n }
+    ensures { First K.handle_of K.before (held K.handle_of keys.now n) result }
+{
+    if n == 0 {
+        return Err(Refusal::Nobody);
+    }
+    Ok(keys[0].handle())
+}
+
+// How many keys a heap in order holds. One step.
+pub fn count_of<K: Key>(keys: &[K], n: usize) -> usize
+    requires { (places : List ℕ) × InOrder K.handle_of K.before keys.now places n }
+    ensures len { result ≡ n }
+    ensures counts { result ≡ counted (held K.handle_of keys.now n) 1024 }
+{
+    keeps_count(keys, n);
+    n
+}
+
+// A heap in order holds as many keys as it keeps: this is why a count need not be counted.
+fn keeps_count<K: Key>(keys: &[K], n: usize)
+    requires { (places : List ℕ) × InOrder K.handle_of K.before keys.now places n }
+    ensures { counted (held K.handle_of keys.now n) 1024 ≡ n }
+{}

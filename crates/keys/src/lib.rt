@@ -1,4 +1,4 @@
-// The two kinds of key that are in use, each shown to keep the order law: by left work, and by name.
+// The two kinds of key: by left work, for SRPT, and by name, for a report; each is shown to keep the order law.
 #![tactic(auto)]
 
 pub mod left;

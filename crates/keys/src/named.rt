@@ -41,6 +41,7 @@ impl Key for NameKey {
 }
 
 // Whether the name a comes before the name b, or is the same and has the smaller number.
+// It is over bytes and not over keys, so that the law and the tests speak of names of any length.
 fn name_before(a: &[u8], b: &[u8], m: u32, n: u32) -> bool
     ensures { result ≡ earlier a.now b.now m n }
 {

@@ -34,30 +34,31 @@ impl Srpt {
         Srpt { ranking }
     }
 
-    // A job that is not present gets a key with its size as its left work.
-    fn enter(&mut self, number: u32, size: u32) -> Result<(), Refusal>
-        requires { (number < 1024) × (good_size size ≡ true) }
-        ensures answers { result ≡ provided (slice_index (lefts_of self.old) number == 0) Held (Ok tt) }
-        ensures leaves { lefts_of self.new ≡ if_accepted result (slice_set (lefts_of self.old) number size) (lefts_of self.old) }
+    // A job that is not present gets this key, with its size as its left work.
+    fn enter(&mut self, key: LeftKey) -> Result<(), Refusal>
+        requires { (key.number < 1024) × (good_size key.left ≡ true) }
+        ensures answers { result ≡ provided (slice_index (lefts_of self.old) key.number == 0) Held (Ok tt) }
+        ensures leaves { lefts_of self.new ≡ if_accepted result (slice_set (lefts_of self.old) key.number key.left) (lefts_of self.old) }
     {
-        self.ranking.insert(LeftKey { left: size, number })
+        self.ranking.insert(key)
     }
 
-    // One unit of a job with `left` units left is done.
+    // One unit of the job with this key is done.
     #[tactic(auto, using(crate::specs::Jobs::left_of_key, crate::specs::Tables::table_set))]
-    fn serve(&mut self, number: u32, left: u32)
-        requires { (number < 1024) × (0 < left) × (slice_index (lefts_of self.old) number ≡ left) }
-        ensures { lefts_of self.new ≡ slice_set (lefts_of self.old) number (left - 1) }
+    fn serve(&mut self, key: LeftKey)
+        requires { (key.number < 1024) × (0 < key.left) × (slice_index (lefts_of self.old) key.number ≡ key.left) }
+        ensures { lefts_of self.new ≡ slice_set (lefts_of self.old) key.number (key.left - 1) }
     {
-        self.tell(number, left);
+        self.tell(key);
     }
 
     // (Apart from `serve`: joined with it, the search comes too near its bounds.)
     // Tells the ranking of that unit: the job's key has one unit less, and a job without any left has no key.
-    fn tell(&mut self, number: u32, left: u32)
-        requires { (number < 1024) × (0 < left) × (left_in (keys_of self.old.ranking number) ≡ left) }
-        ensures { (j : ℕ) → left_in (keys_of self.new.ranking j) ≡ (if nat_eq j number then left - 1 else left_in (keys_of self.old.ranking j)) }
+    fn tell(&mut self, key: LeftKey)
+        requires { (key.number < 1024) × (0 < key.left) × (left_in (keys_of self.old.ranking key.number) ≡ key.left) }
+        ensures { (j : ℕ) → left_in (keys_of self.new.ranking j) ≡ (if nat_eq j key.number then key.left - 1 else left_in (keys_of self.old.ranking j)) }
     {
+        let LeftKey { left, number } = key;
         let rest = left - 1;
         let _ = if rest == 0 {
             self.ranking.remove(number)
@@ -110,7 +111,7 @@ impl Discipline for Srpt {
         if !is_size(size) {
             return Err(Refusal::Size);
         }
-        self.enter(number, size)
+        self.enter(LeftKey { left: size, number })
     }
 
     // The present job with the least left work, the smallest number of equals. Refused with `Nobody` where nobody is present. One step.
@@ -121,14 +122,12 @@ impl Discipline for Srpt {
 
     // One unit of work is done on job `number`; answers what is left, and without any left the job is no longer present.
     // Refused, in this order: with `OutOfRange` for a number above 1,023, with `NotHeld` for a job that is not present. O(log n).
+    #[tactic(auto, using(crate::specs::Jobs::left_of_key, crate::specs::Numbers::own_number))]
     fn worked(&mut self, number: u32) -> Result<u32, Refusal> {
         in_range(number)?;
-        let left = self.left_at(number);
-        if left == 0 {
-            return Err(Refusal::NotHeld);
-        }
-        self.serve(number, left);
-        Ok(left - 1)
+        let key = self.ranking.get(number).ok_or(Refusal::NotHeld)?;
+        self.serve(key);
+        Ok(key.left - 1)
     }
 
     // The left work of job `number`, 0 for one that is not present. Refused with `OutOfRange` for a number above 1,023. One step.

@@ -1,5 +1,0 @@
-use Rattle.heap.proofs.Counts.{in_order_counted}
-use Rattle.heap.proofs.view.View.keeps_count.Goals as goal
-
-pub returns : goal.returns
-returns g c = in_order_counted c.args.self.now.order
