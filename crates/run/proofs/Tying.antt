@@ -1,21 +1,17 @@
 -- Every run is tied: the jobs present are the lines with left above 0. And so is every state that calls lead to.
-use Rattle.std.proofs.Common.{◌≡◌, ℕ, ◌-◌, ◌<◌, ◌≤◌, true, ◌≢◌, List, get_or, set, replicate, Some, None, Ok, Err, Option, Result, sym, refl, ap, ◌∙◌, subst, arith}
+use Rattle.std.proofs.Common.{◌≡◌, ℕ, ◌-◌, ◌<◌, ◌≤◌, true, ◌≢◌, List, get_or, set, replicate, Some, None, Ok, Err, Option, sym, refl, ap, ◌∙◌, subst, arith}
 use lib.LanesLaws.{map-replicate}
 use Rattle.std.proofs.lemmas.List.{map-set, get_or-set_other}
 use Rattle.discipline.specs.Meaning.{Sound}
 use Rattle.discipline.proofs.Admitted.{zero_at}
 use Rattle.run.specs.declared.book.Book.{Book}
 use Rattle.run.specs.declared.accounts.Accounts.{Accounts}
-use Rattle.run.specs.declared.accounts.Call.TheVariants.{Enter}
 use Rattle.run.specs.declared.line.Line.{Line}
 use Rattle.job.specs.Names.{name_of}
 use Rattle.run.specs.Lines.{unused, lefts, new_line, worked_line}
 use Rattle.run.specs.States.{State, Tied, Leased}
-use Rattle.run.specs.Steps.{may_answer, is_free, blank_book, enter_after, done_after, idled, made_with}
+use Rattle.run.specs.Steps.{is_free, blank_book, enter_after, done_after, idled, made_with}
 use Rattle.run.specs.Histories.{Event, enter, take, done, back, pass, Step}
-use Rattle.refusal.specs.declared.Refusal.{Refusal}
-use Rattle.refusal.specs.declared.Refusal.TheVariants.{LeaseOut}
-use Rattle.refusal.proofs.Accepted.{provided_ok}
 use Rattle.run.specs.Kept.{lease_kept}
 use Rattle.run.specs.declared.run.Run.{Run}
 use Rattle.run.specs.Runs.{meaning}
@@ -100,12 +96,9 @@ made_state p c b a e f h = cc
 -- ---- a run, by its type
 
 -- no job is leased while the run is free
-pub free_held : (a : Accounts) (p : List ℕ) (u : Unit {0}) → ◌≡◌ {A = Result (Unit {0}) Refusal} (Ok u) (may_answer a Enter) → lease_kept a.lease p a.clock ≡ true
-free_held a p u e = by a.lease (provided_ok (is_free a.lease) LeaseOut (Ok tt) u e).0
-  where
-    by : (o : Option ℕ) → is_free o ≡ true → lease_kept o p a.clock ≡ true
-    by None f = refl
-    by (Some j) f = let z : ◌≡◌ {A = ℕ} 0 1 = cc in absurd (omega arith)
+pub free_held : (o : Option ℕ) (p : List ℕ) (c : ℕ) → is_free o ≡ true → lease_kept o p c ≡ true
+free_held None p c f = refl
+free_held (Some j) p c f = let z : ◌≡◌ {A = ℕ} 0 1 = cc in absurd (omega arith)
 
 leased_by : (o : Option ℕ) (p : List ℕ) (c : ℕ) → lease_kept o p c ≡ true → Leased o p
 leased_by None p c h = tt

@@ -9,6 +9,7 @@ use Rattle.run.specs.Lines.{new_line, lefts}
 use Rattle.run.specs.States.{State}
 use Rattle.run.specs.Steps.{enter_rule}
 use Rattle.run.specs.Runs.{meaning}
+use Rattle.refusal.proofs.Accepted.{provided_ok}
 use Rattle.run.proofs.Keeping.{entered_lines}
 use Rattle.run.proofs.Tying.{tied_run, free_held}
 use Rattle.run.proofs.Accepting.{admits, made_good}
@@ -41,5 +42,5 @@ invariant_of-self g c =
       many = subst (λ (x : Book). x.entered ≤ 1024) e (omega arith);
       lines = subst (λ (x : Book). LinesKept x t) e (entered_lines b t z w low size name r.lines);
       figures = r.figures;
-      held = free_held r.accounts _ c.in_ok-may.field-0 c.in_ok-may.ensures;
+      held = free_held r.accounts.lease _ t (provided_ok _ _ _ _ c.in_ok-may.ensures).0;
     }
