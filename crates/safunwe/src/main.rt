@@ -30,6 +30,7 @@ fn report<W: Write>(out: &mut W, trace: &[u8]) -> io::Result<()> {
     match whole_trace(trace) {
         Ok(Counts { jobs, lines }) => {
             for line in Lines::new(trace) {
+                // An accepted trace has no refused line, so `unwrap` cannot fail here: the proof shows it.
                 let (line, place) = line.unwrap();
                 print_line(out, place, &line)?;
             }

@@ -1,14 +1,14 @@
 -- From the tokens that are read to the line that stands at a place.
-use Rattle.std.proofs.Common.{◌≡◌, ℕ, ◌+◌, List, [], ◌∷◌, ◌++◌, length, drop, codes, decimal, sym, ap, ◌∙◌, append_assoc, arith}
+use Rattle.std.proofs.Common.{◌≡◌, ℕ, ◌+◌, List, [], ◌∷◌, ◌++◌, length, drop, decimal, sym, ap, ◌∙◌, append_assoc, arith}
 use Rattle.std.specs.List.{slice_range}
 use Rattle.std.proofs.lemmas.List.{drop_at, drop-drop, length_push, take_rest}
-use Rattle.trace.specs.Lines.{Spells, Lacks, Line, job, lost, Formed, fields, spelled, Stands}
+use Rattle.trace.specs.Lines.{Lacks, Line, job, Formed, fields, spelled, Stands}
 use Rattle.trace.specs.Tokens.{line_of}
 use Rattle.trace.specs.Answers.{LineFound}
 use Rattle.trace.specs.declared.line.LineTokens.{LineTokens}
 use Rattle.trace.proofs.Cuts.{no_cut, same_cut}
 use Rattle.trace.proofs.Numbers.{decimal_lacks}
-use Rattle.trace.proofs.Unique.{apart, lacks_lf}
+use Rattle.trace.proofs.Unique.{lacks_lf}
 
 -- Where no LF follows no line stands.
 pub no_lf : (trace : List ℕ) (p : ℕ) (bs : List ℕ) → bs ≡ slice_range trace p (length trace) → Lacks 10 bs → (l : Line) → Stands trace p l → ⊥
@@ -17,26 +17,6 @@ no_lf trace p bs e lacks l h = no_cut 10 bs (spelled l) h.1.0 lacks (e ∙ take_
 -- The bytes up to the first LF are those of the line that stands there.
 pub up_to_lf : (trace : List ℕ) (p : ℕ) (bs line rest : List ℕ) → bs ≡ slice_range trace p (length trace) → Lacks 10 line × (bs ≡ line ++ 10 ∷ rest) → (l : Line) → Stands trace p l → line ≡ spelled l
 up_to_lf trace p bs line rest e c l h = (same_cut 10 _ _ _ _ c.0 (lacks_lf l h.0) (sym c.1 ∙ e ∙ take_rest trace p ∙ h.1.1)).0
-
--- The keyword of a line ..
-abbrev pub keyword : Line → List ℕ
-keyword (job t s n) = codes "job"
-keyword (lost t) = codes "lost"
-
--- .. and what follows it and its space.
-abbrev pub content : Line → List ℕ
-content (job t s n) = fields t s n
-content (lost t) = decimal t
-
--- The bytes of a line are cut at their first space behind the keyword.
-pub keyword_cut : (l : Line) (bs first rest : List ℕ) → Lacks 32 first × (bs ≡ first ++ 32 ∷ rest) → bs ≡ spelled l → (first ≡ keyword l) × (rest ≡ content l)
-keyword_cut (job t s n) bs first rest p e = same_cut 32 _ _ (codes "job") _ p.0 (apart 32 106 (omega arith), (apart 32 111 (omega arith), (apart 32 98 (omega arith), tt))) (sym p.1 ∙ e)
-keyword_cut (lost t) bs first rest p e = same_cut 32 _ _ (codes "lost") _ p.0 (apart 32 108 (omega arith), (apart 32 111 (omega arith), (apart 32 115 (omega arith), (apart 32 116 (omega arith), tt)))) (sym p.1 ∙ e)
-
--- Bytes cut behind the keyword of a lost line, where what follows is no number, are no line.
-pub no_lost : (l : Line) (first rest : List ℕ) → Formed l → first ≡ codes "lost" → (first ≡ keyword l) × (rest ≡ content l) → ((n : ℕ) → Spells rest n → ⊥) → ⊥
-no_lost (job t s n) first rest f e h none = let z : ◌≡◌ {A = ℕ} 106 108 = cc in omega arith
-no_lost (lost t) first rest f e h none = none t (f, h.1)
 
 -- The bytes of a job line's fields are cut at their first space behind the tick ..
 pub tick_cut : (t s : ℕ) (n : List ℕ) → Formed (job t s n) → (bs first more : List ℕ) → Lacks 32 first × (bs ≡ first ++ 32 ∷ more) → bs ≡ fields t s n → (first ≡ decimal t) × (more ≡ decimal s ++ 32 ∷ n)

@@ -2,9 +2,8 @@
 use Rattle.std.specs.Prelude.{◌≡◌, ℕ, ◌+◌, ◌<◌, ◌≤◌, cond, List, length, slice_index}
 use Rattle.trace.specs.Lines.{Spells, Word, Line, job, Formed, fields, spelled}
 use Rattle.trace.specs.Rules.{is_job, opens}
-use Rattle.trace.specs.Tokens.{behind, NumberAt, TokensAt, line_of}
-use Rattle.trace.specs.declared.token.Word.{Word as WordToken}
-use Rattle.trace.specs.declared.token.Number.{Number}
+use Rattle.trace.specs.Tokens.{bytes_of, value_of, behind, WordAt, NumberAt, TokensAt, line_of}
+use Rattle.trace.specs.declared.token.PlacedToken.{PlacedToken}
 use Rattle.trace.specs.declared.line.LineTokens.{LineTokens}
 use Rattle.trace.specs.declared.whole.Seen.{Seen}
 
@@ -12,20 +11,20 @@ use Rattle.trace.specs.declared.whole.Seen.{Seen}
 abbrev pub IsShort : List ℕ → Type 0
 IsShort bs = (0 < length bs) × (length bs ≤ 6) × (slice_index bs 0 ≡ 48 → length bs ≡ 1)
 
--- The token is the word that the bytes are, with the place p.
-abbrev pub ReadsWord : List ℕ → ℕ → WordToken → Type 0
-ReadsWord bs p t = (t.bytes.now ≡ bs) × (t.place ≡ p) × Word bs
-
 -- The token is the number that the bytes spell, with the place p.
-abbrev pub ReadsNumber : List ℕ → ℕ → Number → Type 0
-ReadsNumber bs p t = (t.digits.bytes.now ≡ bs) × (t.digits.place ≡ p) × Spells bs t.value
+abbrev pub ReadsNumber : List ℕ → ℕ → PlacedToken → Type 0
+ReadsNumber bs p t = NumberAt p t × (bytes_of t.token ≡ bs) × Spells bs (value_of t.token)
+
+-- The token is the word that the bytes are, with the place p.
+abbrev pub ReadsWord : List ℕ → ℕ → PlacedToken → Type 0
+ReadsWord bs p t = WordAt p t × (bytes_of t.token ≡ bs) × Word bs
 
 -- The three tokens are those of the fields of a job line, which the bytes spell and which stand at p.
-abbrev pub ReadsFields : List ℕ → ℕ → Number → Number → WordToken → Type 0
+abbrev pub ReadsFields : List ℕ → ℕ → PlacedToken → PlacedToken → PlacedToken → Type 0
 ReadsFields bs p t s n =
-    Formed (job t.value s.value n.bytes.now)
-    × (bs ≡ fields t.value s.value n.bytes.now)
-    × NumberAt p t × NumberAt (behind t.digits) s × (n.place ≡ behind s.digits)
+    Formed (job (value_of t.token) (value_of s.token) (bytes_of n.token))
+    × (bs ≡ fields (value_of t.token) (value_of s.token) (bytes_of n.token))
+    × NumberAt p t × NumberAt (behind t) s × WordAt (behind s) n
 
 -- The tokens are those of the line that the bytes spell and that stands at p.
 abbrev pub ReadsTokens : List ℕ → ℕ → LineTokens → Type 0

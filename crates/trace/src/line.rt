@@ -8,7 +8,7 @@ ghost use Rattle.trace.specs.Answers.{reported, LineFound, LineRead, LineRefused
 
 use crate::refused::TraceRefusal;
 use crate::span::Span;
-use crate::token::{Number, Word};
+use crate::token::PlacedToken;
 use refusal::Refusal;
 
 // The tokens of a line, each with its place.
@@ -16,15 +16,15 @@ use refusal::Refusal;
 pub enum LineTokens<'a> {
     // `job TICK SIZE NAME`
     Job {
-        keyword: Word<'a>,
-        tick: Number<'a>,
-        size: Number<'a>,
-        name: Word<'a>,
+        keyword: PlacedToken<'a>,
+        tick: PlacedToken<'a>,
+        size: PlacedToken<'a>,
+        name: PlacedToken<'a>,
     },
     // `lost TICK`
     Lost {
-        keyword: Word<'a>,
-        tick: Number<'a>,
+        keyword: PlacedToken<'a>,
+        tick: PlacedToken<'a>,
     },
 }
 
@@ -59,26 +59,54 @@ impl LineTokens<'_> {
         }
         Ok(())
     }
+
+    // The same judgement, with the place of the line in its refusal.
+    fn judge_at(&self, place: usize) -> Result<(), TraceRefusal>
+        ensures { MatchResult result (λ _. fault (line_of self.now) ≡ None) (λ e. (fault (line_of self.now) ≡ Some e.cause) × (e.place ≡ place)) }
+    {
+        self.judge().map_err(|cause| TraceRefusal { cause, place })
+    }
 }
 
 // The tick, the size and the name of a job line, from what lies behind its keyword and space.
-fn job_fields<'a>(rest: Span<'a>) -> Option<(Number<'a>, Number<'a>, Word<'a>)>
+// The fields are read with `let .. else` and no `?`, since the rules of the project name this form.
+fn job_fields<'a>(rest: Span<'a>) -> Option<(PlacedToken<'a>, PlacedToken<'a>, PlacedToken<'a>)>
     ensures { MatchOption result ((t s : ℕ) (n : List ℕ) → Formed (job t s n) → rest.entry.bytes.now ≢ fields t s n) (λ x. ReadsFields rest.entry.bytes.now rest.entry.place x.0 x.1 x.2) }
 {
-    let (tick, rest) = rest.cut(b' ')?;
-    let (size, name) = rest.cut(b' ')?;
-    Some((tick.number()?, size.number()?, name.word()?))
+    let Some((tick, rest)) = rest.cut(b' ') else {
+        return None;
+    };
+    let Some((size, name)) = rest.cut(b' ') else {
+        return None;
+    };
+    let Some(tick) = tick.number() else {
+        return None;
+    };
+    let Some(size) = size.number() else {
+        return None;
+    };
+    let Some(name) = name.word() else {
+        return None;
+    };
+    Some((tick, size, name))
 }
 
 // The tokens of a line, which is given without its LF.
+// Slice patterns take its first bytes, since the rules of the project name this form.
 fn tokens<'a>(line: Span<'a>) -> Option<LineTokens<'a>>
     ensures { MatchOption result ((l : Line) → Formed l → line.entry.bytes.now ≢ spelled l) (λ ts. ReadsTokens line.entry.bytes.now line.entry.place ts) }
 {
-    let (front, rest) = line.cut(b' ')?;
-    let keyword = front.token();
-    match front.bytes {
-        b"job" => {
-            let (tick, size, name) = job_fields(rest)?;
+    let place = line.place;
+    match line.bytes {
+        [b'j', b'o', b'b', b' ', bytes @ ..] => {
+            let keyword = line.front(3).token();
+            let rest = Span {
+                bytes,
+                place: place + 4,
+            };
+            let Some((tick, size, name)) = job_fields(rest) else {
+                return None;
+            };
             Some(LineTokens::Job {
                 keyword,
                 tick,
@@ -86,8 +114,15 @@ fn tokens<'a>(line: Span<'a>) -> Option<LineTokens<'a>>
                 name,
             })
         }
-        b"lost" => {
-            let tick = rest.number()?;
+        [b'l', b'o', b's', b't', b' ', bytes @ ..] => {
+            let keyword = line.front(4).token();
+            let rest = Span {
+                bytes,
+                place: place + 5,
+            };
+            let Some(tick) = rest.number() else {
+                return None;
+            };
             Some(LineTokens::Lost { keyword, tick })
         }
         _ => None,
@@ -112,7 +147,7 @@ fn read_line<'a>(trace: &'a [u8], place: usize) -> Result<(LineTokens<'a>, usize
         cause: Refusal::LineForm,
         place,
     })?;
-    line.judge().map_err(|cause| TraceRefusal { cause, place })?;
+    line.judge_at(place)?;
     Ok((line, next))
 }
 

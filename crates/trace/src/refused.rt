@@ -3,6 +3,7 @@ ghost use Rattle.std.specs.Prelude.{Some};
 ghost use Rattle.trace.specs.Answers.{message};
 
 use refusal::Refusal;
+use std::error::Error;
 use std::fmt;
 
 // Why a trace is refused, and where: 0 for its length, else the first byte of the line.
@@ -22,3 +23,5 @@ impl fmt::Display for TraceRefusal {
         write!(f, "refused {number} at {place}")
     }
 }
+
+impl Error for TraceRefusal {}

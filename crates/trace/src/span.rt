@@ -1,11 +1,11 @@
 // Spans: bytes of a trace that lie together, how they are cut, and the tokens that they are read as.
-ghost use Rattle.std.specs.Prelude.{◌≡◌, ℕ, ◌+◌, ◌^◌, ◌<◌, ◌∷◌, ◌++◌, length, IfSome, MatchOption, IsTrue, ◌↔◌};
+ghost use Rattle.std.specs.Prelude.{◌≡◌, ℕ, ◌+◌, ◌^◌, ◌<◌, ◌≤◌, ◌∷◌, ◌++◌, length, take, IfSome, MatchOption, IsTrue, ◌↔◌};
 ghost use Rattle.std.specs.Option.{SomeIff};
 ghost use Rattle.std.specs.Char.{digit_value};
 ghost use Rattle.trace.specs.Lines.{Spells};
 ghost use Rattle.trace.specs.Inner.{IsShort};
 
-use crate::token::{Number, Word};
+use crate::token::{PlacedToken, Token};
 
 // The most digits of a number.
 const MAX_DIGITS: usize = 6;
@@ -48,8 +48,21 @@ pub(crate) struct Span<'a> {
 }
 
 impl<'a> Span<'a> {
-    ghost use Rattle.trace.specs.Lines.{Spells, Lacks, Word as IsWord};
+    ghost use Rattle.trace.specs.Lines.{Spells, Lacks, Word};
+    ghost use Rattle.trace.specs.Tokens.{bytes_of, WordAt};
     ghost use Rattle.trace.specs.Inner.{ReadsNumber, ReadsWord};
+
+    // Its first `len` bytes.
+    pub fn front(self, len: usize) -> Self
+        requires { len ≤ length self.bytes.now }
+        ensures bytes { result.bytes.now ≡ take len self.entry.bytes.now }
+        ensures place { result.place ≡ self.entry.place }
+    {
+        Span {
+            bytes: &self.bytes[..len],
+            place: self.place,
+        }
+    }
 
     // What lies before the first `end`, and what lies behind it.
     pub fn cut(self, end: u8) -> Option<(Self, Self)>
@@ -57,31 +70,27 @@ impl<'a> Span<'a> {
         ensures cuts { MatchOption result (Lacks end self.entry.bytes.now) (λ p. Lacks end p.0.bytes.now × (self.entry.bytes.now ≡ p.0.bytes.now ++ end ∷ p.1.bytes.now)) }
     {
         let at = self.bytes.iter().position(|byte| *byte == end)?;
-        let before = Span {
-            bytes: &self.bytes[..at],
-            place: self.place,
-        };
         let after = Span {
             bytes: &self.bytes[at + 1..],
             place: self.place + at + 1,
         };
-        Some((before, after))
+        Some((self.front(at), after))
     }
 
-    // The bytes as a token, whatever they are.
-    pub fn token(self) -> Word<'a>
-        ensures bytes { result.bytes.now ≡ self.entry.bytes.now }
-        ensures place { result.place ≡ self.entry.place }
+    // The bytes as a word, whatever they are.
+    pub fn token(self) -> PlacedToken<'a>
+        ensures word { WordAt self.entry.place result }
+        ensures bytes { bytes_of result.token ≡ self.entry.bytes.now }
     {
-        Word {
-            bytes: self.bytes,
+        PlacedToken {
+            token: Token::Word(self.bytes),
             place: self.place,
         }
     }
 
     // The word that the bytes are.
-    pub fn word(self) -> Option<Word<'a>>
-        ensures { MatchOption result (IsWord self.entry.bytes.now → ⊥) (λ t. ReadsWord self.entry.bytes.now self.entry.place t) }
+    pub fn word(self) -> Option<PlacedToken<'a>>
+        ensures { MatchOption result (Word self.entry.bytes.now → ⊥) (λ t. ReadsWord self.entry.bytes.now self.entry.place t) }
     {
         if self.bytes.is_empty() || self.bytes.contains(&b' ') || self.bytes.contains(&b'\n') {
             return None;
@@ -90,13 +99,13 @@ impl<'a> Span<'a> {
     }
 
     // The number that the bytes spell: one to six digits, with no leading zero.
-    pub fn number(self) -> Option<Number<'a>>
+    pub fn number(self) -> Option<PlacedToken<'a>>
         ensures { MatchOption result ((n : ℕ) → Spells self.entry.bytes.now n → ⊥) (λ t. ReadsNumber self.entry.bytes.now self.entry.place t) }
     {
         let value = value_of(self.bytes)?;
-        Some(Number {
-            digits: self.token(),
-            value,
+        Some(PlacedToken {
+            token: Token::Number(self.bytes, value),
+            place: self.place,
         })
     }
 }

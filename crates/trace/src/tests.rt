@@ -118,12 +118,7 @@ fn lines_at_places(rt: HostRuntime) -> Result<(), Fail> {
         return Err(Fail::new("no job"));
     };
     assert_eq!(rt;
-        (
-            keyword.place,
-            tick.digits.place,
-            size.digits.place,
-            name.place
-        ),
+        (keyword.place, tick.place, size.place, name.place),
         (0, 4, 6, 9)
     );
     assert_eq!(rt; (tick.value(), size.value()), (0, 42));

@@ -1,41 +1,43 @@
 // Tokens: words and numbers, with the bytes of the trace that spell them and the place of the first.
 ghost use Rattle.std.specs.Prelude.{◌≡◌};
+ghost use Rattle.trace.specs.Tokens.{bytes_of, value_of};
 
-// One or more bytes, none of them a space or an LF, and the place of the first.
+// A word or a number, with the bytes of the trace that spell it.
+// One enum and no type for each of the two, since the rules of the project ask for this one.
 #[derive(Clone, Copy)]
-pub struct Word<'a> {
-    pub bytes: &'a [u8],
+pub enum Token<'a> {
+    // One or more bytes, none of them a space or an LF.
+    Word(&'a [u8]),
+    // Digits, and the number that they spell.
+    Number(&'a [u8], u32),
+}
+
+// A token, and the place of its first byte in the trace.
+#[derive(Clone, Copy)]
+pub struct PlacedToken<'a> {
+    pub token: Token<'a>,
     pub place: usize,
 }
 
-// A word of digits, and the number that they spell.
-#[derive(Clone, Copy)]
-pub struct Number<'a> {
-    pub digits: Word<'a>,
-    pub value: u32,
-}
-
-impl<'a> Word<'a> {
-    // The bytes of the trace that spell the word.
+impl<'a> PlacedToken<'a> {
+    // The bytes of the trace that spell the token.
     pub fn bytes(&self) -> &'a [u8]
-        ensures { result.now ≡ self.now.bytes.now }
+        ensures { result.now ≡ bytes_of self.now.token }
     {
-        self.bytes
-    }
-}
-
-impl<'a> Number<'a> {
-    // The bytes of the trace that spell the number.
-    pub fn bytes(&self) -> &'a [u8]
-        ensures { result.now ≡ self.now.digits.bytes.now }
-    {
-        self.digits.bytes()
+        match self.token {
+            Token::Word(bytes) => bytes,
+            Token::Number(bytes, _) => bytes,
+        }
     }
 
-    // The number that the digits spell.
+    // The number that the token stands for, 0 for a word.
+    // It answers no `Option`, since the call cannot fail and never could.
     pub fn value(&self) -> u32
-        ensures { result ≡ self.now.value }
+        ensures { result ≡ value_of self.now.token }
     {
-        self.value
+        match self.token {
+            Token::Word(_) => 0,
+            Token::Number(_, value) => value,
+        }
     }
 }

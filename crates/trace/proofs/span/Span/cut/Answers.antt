@@ -7,4 +7,4 @@ returns-clause-cuts c =
     let l : c.in_ok-at.at < length c.args.self.bytes.now = search rules in
     let e : get_or c.args.self.bytes.now c.in_ok-at.at 0 ≡ c.args.end = search rules in
     let h : (k : ℕ) → k < c.in_ok-at.at → get_or c.args.self.bytes.now k 0 ≡ c.args.end → ⊥ = search rules in
-    first_cut _ _ _ l e h
+    rw c.front.ensures.bytes (first_cut _ _ _ l e h)
