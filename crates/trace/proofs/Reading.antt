@@ -1,7 +1,7 @@
 -- From the tokens that are read to the line that stands at a place.
-use Rattle.std.proofs.Common.{◌≡◌, ℕ, ◌+◌, List, [], ◌∷◌, ◌++◌, length, drop, decimal, sym, ap, ◌∙◌, append_assoc, arith}
+use Rattle.std.proofs.Common.{◌≡◌, ℕ, ◌+◌, ◌-◌, ◌≤◌, List, [], ◌∷◌, ◌++◌, length, get_or, take, drop, codes, decimal, sym, ap, ◌∙◌, append_assoc, arith}
 use Rattle.std.specs.List.{slice_range}
-use Rattle.std.proofs.lemmas.List.{drop_at, drop-drop, length_push, take_rest}
+use Rattle.std.proofs.lemmas.List.{drop_at, drop_more, drop-drop, length_push, take_rest}
 use Rattle.trace.specs.Lines.{Lacks, Line, job, Formed, fields, spelled, Stands}
 use Rattle.trace.specs.Tokens.{line_of}
 use Rattle.trace.specs.Answers.{LineFound}
@@ -17,6 +17,14 @@ no_lf trace p bs e lacks l h = no_cut 10 bs (spelled l) h.1.0 lacks (e ∙ take_
 -- The bytes up to the first LF are those of the line that stands there.
 pub up_to_lf : (trace : List ℕ) (p : ℕ) (bs line rest : List ℕ) → bs ≡ slice_range trace p (length trace) → Lacks 10 line × (bs ≡ line ++ 10 ∷ rest) → (l : Line) → Stands trace p l → line ≡ spelled l
 up_to_lf trace p bs line rest e c l h = (same_cut 10 _ _ _ _ c.0 (lacks_lf l h.0) (sym c.1 ∙ e ∙ take_rest trace p ∙ h.1.1)).0
+
+-- Bytes that begin as a job line begin with its keyword and space ..
+pub job_front : (s : List ℕ) → 4 ≤ length s → get_or s 0 0 ≡ 106 → get_or s 1 0 ≡ 111 → get_or s 2 0 ≡ 98 → get_or s 3 0 ≡ 32 → s ≡ codes "job " ++ take (length s - 4) (drop 4 s)
+job_front s l p q r t = grind (arith, drop_more s 0 0, drop_more s 1 0, drop_more s 2 0, drop_more s 3 0, take_rest s 4)
+
+-- .. and as a lost one with that one's.
+pub lost_front : (s : List ℕ) → 5 ≤ length s → get_or s 0 0 ≡ 108 → get_or s 1 0 ≡ 111 → get_or s 2 0 ≡ 115 → get_or s 3 0 ≡ 116 → get_or s 4 0 ≡ 32 → s ≡ codes "lost " ++ take (length s - 5) (drop 5 s)
+lost_front s l p q r t u = grind (arith, drop_more s 0 0, drop_more s 1 0, drop_more s 2 0, drop_more s 3 0, drop_more s 4 0, take_rest s 5)
 
 -- The bytes of a job line's fields are cut at their first space behind the tick ..
 pub tick_cut : (t s : ℕ) (n : List ℕ) → Formed (job t s n) → (bs first more : List ℕ) → Lacks 32 first × (bs ≡ first ++ 32 ∷ more) → bs ≡ fields t s n → (first ≡ decimal t) × (more ≡ decimal s ++ 32 ∷ n)

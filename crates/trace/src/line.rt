@@ -93,6 +93,7 @@ fn job_fields<'a>(rest: Span<'a>) -> Option<(PlacedToken<'a>, PlacedToken<'a>, P
 
 // The tokens of a line, which is given without its LF.
 // Slice patterns take its first bytes, since the rules of the project name this form.
+#[tactic(auto, using(crate::proofs::Reading::job_front, crate::proofs::Reading::lost_front))]
 fn tokens<'a>(line: Span<'a>) -> Option<LineTokens<'a>>
     ensures { MatchOption result ((l : Line) → Formed l → line.entry.bytes.now ≢ spelled l) (λ ts. ReadsTokens line.entry.bytes.now line.entry.place ts) }
 {
