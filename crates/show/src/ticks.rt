@@ -24,6 +24,7 @@ pub struct Ticked {
 }
 
 // A job of size 1 with the name given, if one is, tries to enter.
+// A `match` and no `map`: tried, and the check does not find what a closure that takes the run along leaves of it.
 fn enter_late<D: Discipline>(run: &mut Run<D>, name: Option<&str>) -> Option<After>
     ensures { (meaning D.Discipline run.new).accounts ≡ (meaning D.Discipline run.old).accounts }
 {
