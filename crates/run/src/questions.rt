@@ -77,7 +77,7 @@ impl<D: Discipline> Run<D> {
         Ok(self.book.line(number)?.sojourn())
     }
 
-    // Copies the line of job `number` into one handed over. Refused: a job that has not entered.
+    // Copies the line of job `number` into one handed over, as the rules of the project have it. Refused: a job that has not entered.
     pub fn line(&self, number: u32, into: &mut Line) -> Result<(), Refusal>
         ensures { Copies (meaning D.Discipline self.now).book number into.old result into.new }
     {

@@ -5,7 +5,7 @@ use crate::refused::TraceRefusal;
 use crate::whole::whole_trace;
 use std::test::Fail;
 
-// The number of the cause, and the place.
+// The number of the cause, and the place: the numbers are the format that users see.
 fn number_and_place(refused: TraceRefusal) -> (u8, usize) {
     (refused.cause.number(), refused.place)
 }
