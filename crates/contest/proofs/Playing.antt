@@ -1,9 +1,11 @@
 -- What one side makes of a call: what is answered, and what becomes of a lease that is handed in.
-use Rattle.std.proofs.Common.{◌≡◌, ℕ, Some, None, Ok, Err, Option, Result, IsOkAnd, MatchResult, sym, refl, ap, subst}
+use Rattle.std.proofs.Common.{◌≡◌, ℕ, true, Some, None, Ok, Err, Option, Result, IsOkAnd, MatchResult, sym, refl, ap, ◌∙◌, subst}
 use Rattle.refusal.specs.declared.Refusal.{Refusal}
 use Rattle.discipline.specs.declared.Discipline.{Ghosts}
 use Rattle.run.specs.declared.lease.Lease.{Lease}
+use Rattle.run.specs.declared.run.Run.{Run}
 use Rattle.run.specs.Runs.{meaning}
+use Rattle.run.specs.States.{State}
 use Rattle.run.specs.Histories.{Step, handed_in}
 use Rattle.contest.specs.declared.calls.Hand.{Hand}
 use Rattle.contest.specs.declared.calls.Hand.TheVariants.{Own, Stray}
@@ -13,6 +15,7 @@ use Rattle.contest.specs.declared.side.Side.{Side}
 use Rattle.run.specs.declared.ending.End.{End}
 use Rattle.run.specs.declared.ending.End.TheVariants.{Done, Back}
 use Rattle.contest.specs.Calls.{own}
+use Rattle.contest.specs.Carried.{carries}
 use Rattle.contest.specs.Chains.{Handed, dones, backs}
 use Rattle.contest.specs.Played.{hand_of, handing_in, Answer, replied, mark_of, Plays}
 
@@ -48,3 +51,12 @@ module _ {D : Type 0} (d : Ghosts D) (x y : Side D d) (l : Lease) where
       → Step (handed_in e l (Err (c, b))) (meaning d x.run) (meaning d y.run) → y.lease ≡ x.lease → Plays d x (handing_in e h) (Err c) y
   plays_refused Done h c b a p i = record { event = handed_in Done l (Err (c, b)); asks = dones (hand_of h) l (Err (c, b)) a; does = p; leaves = i; answers = refl }
   plays_refused Back h c b a p i = record { event = handed_in Back l (Err (c, b)); asks = backs (hand_of h) l (Err (c, b)) a; does = p; leaves = i; answers = refl }
+
+-- a refused lease leaves the run's meaning
+pub kept_refused : (e : End) (l b : Lease) (c : Refusal) (s s' : State) → Step (handed_in e l (Err (c, b))) s s' → s' ≡ s
+kept_refused Done l b c s s' p = p.leaves
+kept_refused Back l b c s s' p = p.leaves
+
+-- and a side that has its lease again carries it still
+pub carried_again : {D : Type 0} (d : Ghosts D) (x : Side D d) (r : Run D d) (o : Option Lease) → meaning d r ≡ meaning d x.run → o ≡ x.lease → carries r.accounts o ≡ true
+carried_again d x r o e f = ap (λ (s : State). carries s.accounts o) e ∙ ap (carries x.run.accounts) f ∙ x.carried

@@ -1,5 +1,5 @@
 -- A contest stands after each call: the chains of both runs grow, and the theorem holds of them.
-use Rattle.std.proofs.Common.{◌≡◌, ℕ, zero, suc, ◌+◌, ◌<◌, ◌≤◌, List, [], ◌∷◌, reverse, length, get_or, take, drop, set, Some, None, Ok, Option, sym, refl, ap, ◌∙◌, subst, arith}
+use Rattle.std.proofs.Common.{◌≡◌, ◌≢◌, ℕ, zero, suc, ◌+◌, ◌<◌, ◌≤◌, List, [], ◌∷◌, reverse, length, get_or, take, drop, set, Some, None, Ok, Option, sym, refl, ap, ◌∙◌, subst, arith}
 use Rattle.std.proofs.lemmas.List.{take_more_set, reverse-append, map-set, set-get_or, get_or-map}
 use Rattle.refusal.specs.declared.Refusal.TheVariants.{NotTheLease}
 use Rattle.refusal.specs.Answers.{provided}
@@ -8,7 +8,7 @@ use Rattle.discipline.specs.Meaning.{Sound}
 use Rattle.run.specs.declared.run.Run.{Run}
 use Rattle.run.specs.declared.lease.Lease.{Lease}
 use Rattle.run.specs.Runs.{meaning}
-use Rattle.run.specs.Steps.{giving_back}
+use Rattle.run.specs.Steps.{made_with, giving_back}
 use Rattle.run.specs.Histories.{Event, Step}
 use Rattle.schedule.specs.Schedules.{Schedule, Legal, NonIdling}
 use Rattle.schedule.specs.Occupancy.{occupancy}
@@ -19,11 +19,12 @@ use Rattle.srpt.specs.Choosing.{least_best}
 use Rattle.contest.specs.declared.calls.Call.{Call}
 use Rattle.contest.specs.declared.calls.Round.{Round}
 use Rattle.contest.specs.declared.pair.Pair.{Pair}
+use Rattle.contest.specs.declared.side.Side.{Side}
 use Rattle.contest.specs.Calls as C
 use Rattle.contest.specs.Transcripts.{history, own_schedule, lease_after, lease_out, entries_before}
 use Rattle.contest.specs.Chains.{Asks, Chain, made, called}
 use Rattle.contest.specs.Played.{call_of, mark_of}
-use Rattle.contest.specs.Contested.{calls, occupancies, Fresh, Turns, Led, Takes, Contested}
+use Rattle.contest.specs.Contested.{calls, occupancies, Turns, Led, Takes, Contested}
 use Rattle.contest.proofs.Ruling.{lease_is}
 use Rattle.contest.proofs.Comparing.{Picks, by_any, faithful, fewest, runs_compared}
 
@@ -72,34 +73,42 @@ least_counted m cs es r x t p n =
 -- ---- both runs
 
 module _ {D : Type 0} (d : Ghosts D) (sound : (x : D) → Sound (d.present x) (d.choice x)) (k : Lease) where
-  pub led_made : (p : Pair D d) → Fresh d k p → Led d k [] p
-  led_made p f =
-      let mark-is : p.stray.mark ≡ k.mark = ap (λ (l : Lease). l.mark) f.unspent in
-      record {
-        mark = mark_of p.srpt;
-        mark' = mark_of p.rival;
-        es = [];
-        es' = [];
-        chain = made p.srpt.run f.srpt;
-        chain' = made p.rival.run f.rival;
-        answers = refl;
-        answers' = refl;
-        counts = refl;
-        counts' = refl;
-        lease = f.free;
-        lease' = f.free';
-        unspent = f.unspent;
-        strange = λ e. p.strange_to_srpt (mark-is ∙ e);
-        strange' = λ e. p.strange_to_rival (mark-is ∙ e);
-      }
+  pub led_made : (m m' : ℕ) (x : Side Srpt ghosts) (y : Side D d) → meaning ghosts x.run ≡ made_with m → meaning d y.run ≡ made_with m' → x.lease ≡ None → y.lease ≡ None
+      → (k.mark ≡ m → ⊥) → (k.mark ≡ m' → ⊥) → Led d k [] x y k
+  led_made m m' x y a b f f' u v = record {
+    mark = m;
+    mark' = m';
+    es = [];
+    es' = [];
+    chain = made x.run a;
+    chain' = made y.run b;
+    answers = refl;
+    answers' = refl;
+    counts = refl;
+    counts' = refl;
+    lease = f;
+    lease' = f';
+    unspent = refl;
+    strange = u;
+    strange' = v;
+  }
 
-  led_turned : (rs : List Round) (p : Pair D d) (c : Call) (r : Round) (p' : Pair D d) → Led d k rs p → Turns d p c r p' → Led d k (r ∷ rs) p'
-  led_turned rs p c r p' s t =
+  -- the stray lease was given by neither run
+  pub led_strange : {rs : List Round} (x : Side Srpt ghosts) (y : Side D d) (o : Lease) → Led d k rs x y o → (o.mark ≢ mark_of x) × (o.mark ≢ mark_of y)
+  led_strange x y o s =
+      let mark-is : o.mark ≡ k.mark = ap (λ (l : Lease). l.mark) s.unspent in
+      let q = by_any ghosts least_sound s.mark s.chain in
+      let q' = by_any d sound s.mark' s.chain' in
+      (λ e. s.strange (sym mark-is ∙ e ∙ q.marked), λ e. s.strange' (sym mark-is ∙ e ∙ q'.marked))
+
+  led_turned : (rs : List Round) (x : Side Srpt ghosts) (y : Side D d) (o : Lease) (c : Call) (r : Round) (x' : Side Srpt ghosts) (y' : Side D d) (o' : Lease)
+      → Led d k rs x y o → Turns d x y o c r x' y' o' → Led d k (r ∷ rs) x' y' o'
+  led_turned rs x y o c r x' y' o' s t =
       let j = ap call_of t.same in
-      let a : Chain ghosts s.mark (calls (r ∷ rs)) (t.first.event ∷ s.es) p'.srpt.run =
-      lengthened ghosts least_sound s.mark s.chain p.srpt.lease s.lease (call_of c) (call_of r.call) j t.first.event p'.srpt.run t.first.asks t.first.does in
-      let b : Chain d s.mark' (calls (r ∷ rs)) (t.second.event ∷ s.es') p'.rival.run =
-      lengthened d sound s.mark' s.chain' p.rival.lease s.lease' (call_of c) (call_of r.call) j t.second.event p'.rival.run t.second.asks t.second.does in
+      let a : Chain ghosts s.mark (calls (r ∷ rs)) (t.first.event ∷ s.es) x'.run =
+      lengthened ghosts least_sound s.mark s.chain x.lease s.lease (call_of c) (call_of r.call) j t.first.event x'.run t.first.asks t.first.does in
+      let b : Chain d s.mark' (calls (r ∷ rs)) (t.second.event ∷ s.es') y'.run =
+      lengthened d sound s.mark' s.chain' y.lease s.lease' (call_of c) (call_of r.call) j t.second.event y'.run t.second.asks t.second.does in
       record {
         mark = s.mark;
         mark' = s.mark';
@@ -118,7 +127,7 @@ module _ {D : Type 0} (d : Ghosts D) (sound : (x : D) → Sound (d.present x) (d
         strange' = s.strange';
       }
 
-  pub contested : (rs ss : List Round) (p : Pair D d) → calls ss ≡ calls rs → Led d k (reverse ss) p → Contested d k rs ss p
+  pub contested : (rs ss : List Round) (p : Pair D d) → calls ss ≡ calls rs → Led d k (reverse ss) p.srpt p.rival p.stray → Contested d k rs ss p
   contested rs ss p e s =
       let compares = runs_compared ghosts d least_sound srpt_short sound s.mark s.mark' in
       record {
@@ -145,10 +154,10 @@ module _ {D : Type 0} (d : Ghosts D) (sound : (x : D) → Sound (d.present x) (d
       ∙ ap (set (calls rs) i) (ap call_of e ∙ sym (get_or-map (λ (x : Round). call_of x.call) rs i r C.Take l))
       ∙ set-get_or (calls rs) i C.Take
 
-  pub turned_again : (rs ss : List Round) (i : ℕ) (r v : Round) (p p' : Pair D d) → i < length rs
-      → Led d k (reverse (take i rs)) p × (calls rs ≡ calls ss) → Turns d p (get_or rs i r).call v p'
-      → Led d k (reverse (take (i + 1) (set rs i v))) p' × (calls (set rs i v) ≡ calls ss)
-  turned_again rs ss i r v p p' l s t = (
-    subst (λ (ps : List Round). Led d k ps p') (sym (past_set rs i v l)) (led_turned (reverse (take i rs)) p (get_or rs i r).call v p' s.0 t),
+  pub turned_again : (rs ss : List Round) (i : ℕ) (r v : Round) (x : Side Srpt ghosts) (y : Side D d) (o : Lease) (x' : Side Srpt ghosts) (y' : Side D d) (o' : Lease) → i < length rs
+      → Led d k (reverse (take i rs)) x y o × (calls rs ≡ calls ss) → Turns d x y o (get_or rs i r).call v x' y' o'
+      → Led d k (reverse (take (i + 1) (set rs i v))) x' y' o' × (calls (set rs i v) ≡ calls ss)
+  turned_again rs ss i r v x y o x' y' o' l s t = (
+    subst (λ (ps : List Round). Led d k ps x' y' o') (sym (past_set rs i v l)) (led_turned (reverse (take i rs)) x y o (get_or rs i r).call v x' y' o' s.0 t),
     calls-set rs i v r l t.same ∙ s.1,
   )

@@ -13,6 +13,7 @@ use Rattle.srpt.specs.contracts.srpt.SrptDiscipline.TheImpl.{ghosts}
 use Rattle.contest.specs.declared.calls.Call.{Call}
 use Rattle.contest.specs.declared.calls.Round.{Round}
 use Rattle.contest.specs.declared.pair.Pair.{Pair}
+use Rattle.contest.specs.declared.side.Side.{Side}
 use Rattle.contest.specs.Calls as C
 use Rattle.contest.specs.Transcripts.{history, own_schedule, lease_out, entries_before}
 use Rattle.contest.specs.Chains.{Chain}
@@ -30,40 +31,32 @@ abbrev pub occupancies : List Event → List ℕ
 occupancies [] = []
 occupancies (e ∷ es) = occupancy (history (e ∷ es)) (own_schedule (e ∷ es)) ∷ occupancies es
 
--- A pair newly made, with the stray lease k: nothing has been called, no lease is out, and the stray lease is k. By the type of a pair its mark is not that of either run.
-pub record Fresh {D : Type 0} (d : Ghosts D) (k : Lease) (p : Pair D d) : Type 0 where
-  pub srpt : meaning ghosts p.srpt.run ≡ made_with (mark_of p.srpt)
-  pub rival : meaning d p.rival.run ≡ made_with (mark_of p.rival)
-  pub free : p.srpt.lease ≡ None
-  pub free' : p.rival.lease ≡ None
-  pub unspent : p.stray ≡ k
-
--- One call on both sides: p before it, p' after it, and r what is written down of it.
-pub record Turns {D : Type 0} (d : Ghosts D) (p : Pair D d) (c : Call) (r : Round) (p' : Pair D d) : Type 0 where
+-- One call on both sides, x over SRPT and y over the rival, with the stray lease o at hand: x', y' and o' after it, and r what is written down of it.
+pub record Turns {D : Type 0} (d : Ghosts D) (x : Side Srpt ghosts) (y : Side D d) (o : Lease) (c : Call) (r : Round) (x' : Side Srpt ghosts) (y' : Side D d) (o' : Lease) : Type 0 where
   pub same : r.call ≡ c
-  pub first : Plays ghosts p.srpt (call_of c) r.srpt.answer p'.srpt
-  pub second : Plays d p.rival (call_of c) r.rival.answer p'.rival
-  pub counted : r.srpt.present ≡ present_in (meaning ghosts p'.srpt.run)
-  pub counted' : r.rival.present ≡ present_in (meaning d p'.rival.run)
-  pub unspent : p'.stray ≡ p.stray
+  pub first : Plays ghosts x (call_of c) r.srpt.answer x'
+  pub second : Plays d y (call_of c) r.rival.answer y'
+  pub counted : r.srpt.present ≡ present_in (meaning ghosts x'.run)
+  pub counted' : r.rival.present ≡ present_in (meaning d y'.run)
+  pub unspent : o' ≡ o
 
--- The rounds, the newest first, led to the pair p, whose runs were newly made with marks that the stray lease k does not have. The
--- transcripts es and es' have what each run answered; the rounds have that down, and how many jobs were present; the leases are those
--- that are out.
-pub record Led {D : Type 0} (d : Ghosts D) (k : Lease) (rounds : List Round) (p : Pair D d) : Type 0 where
+-- The rounds, the newest first, led to the sides x and y and the stray lease o. The runs were newly made with marks that the stray lease k
+-- does not have. The transcripts es and es' have what each run answered; the rounds have that down, and how many jobs were present; the
+-- leases are those that are out, and o is k.
+pub record Led {D : Type 0} (d : Ghosts D) (k : Lease) (rounds : List Round) (x : Side Srpt ghosts) (y : Side D d) (o : Lease) : Type 0 where
   pub mark : ℕ
   pub mark' : ℕ
   pub es : List Event
   pub es' : List Event
-  pub chain : Chain ghosts mark (calls rounds) es p.srpt.run
-  pub chain' : Chain d mark' (calls rounds) es' p.rival.run
+  pub chain : Chain ghosts mark (calls rounds) es x.run
+  pub chain' : Chain d mark' (calls rounds) es' y.run
   pub answers : map (λ r. r.srpt.answer) rounds ≡ map answer_of es
   pub answers' : map (λ r. r.rival.answer) rounds ≡ map answer_of es'
   pub counts : map (λ r. r.srpt.present) rounds ≡ occupancies es
   pub counts' : map (λ r. r.rival.present) rounds ≡ occupancies es'
-  pub lease : p.srpt.lease ≡ lease_out es
-  pub lease' : p.rival.lease ≡ lease_out es'
-  pub unspent : p.stray ≡ k
+  pub lease : x.lease ≡ lease_out es
+  pub lease' : y.lease ≡ lease_out es'
+  pub unspent : o ≡ k
   pub strange : k.mark ≡ mark → ⊥
   pub strange' : k.mark ≡ mark' → ⊥
 
@@ -91,7 +84,7 @@ Takes d x (Some l) = done_rule (meaning d x) l ≡ Ok tt
 -- order on both runs, which are now those of the pair; the theorem holds of them now and at every earlier point.
 pub record Contested {D : Type 0} (d : Ghosts D) (k : Lease) (before after : List Round) (p : Pair D d) : Type 0 where
   pub same : calls after ≡ calls before
-  pub led : Led d k (reverse after) p
+  pub led : Led d k (reverse after) p.srpt p.rival p.stray
   pub compared : Compared ghosts d led.mark (calls (reverse after)) led.es led.es' p.srpt.run p.rival.run
   pub throughout : Throughout d led.mark led.mark' (calls (reverse after)) led.es led.es'
   pub least : Least (reverse after) led.es

@@ -7,3 +7,4 @@ pub mod Comparison
 pub mod Carried
 pub mod Played
 pub mod Contested
+pub mod Told

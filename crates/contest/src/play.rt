@@ -59,55 +59,49 @@ impl<D: Discipline> Side<D> {
         self.run.pass().map(|()| Reply::Accepted)
     }
 
-    // Hands in the run's own lease, or the stray one. By value, as the lease moves in and out. (The last two arms have one body: their
-    // proofs differ, in why the stray one is handed in.)
-    fn end_tick(self, stray: Lease, end: End, hand: Hand) -> (Side<D>, Answer, Lease)
-        requires { stray.mark ≢ mark_of self }
-        ensures plays { Plays D.Discipline self (handing_in end hand) result.1 result.0 }
-        ensures unspent { result.2 ≡ stray }
+    // Hands in the run's own lease, or the stray one. The run stays where it is and only the leases move: a run is large. (Two arms have
+    // one body: their proofs differ, in why the stray one is handed in.)
+    fn end_tick(&mut self, stray: Lease, end: End, hand: Hand) -> (Answer, Lease)
+        requires { stray.mark ≢ mark_of self.old }
+        ensures plays { Plays D.Discipline self.old (handing_in end hand) result.0 self.new }
+        ensures unspent { result.1 ≡ stray }
     {
-        let Side { mut run, lease } = self;
-        match (hand, lease) {
-            (Hand::Own, Some(own)) => match run.end(own, end) {
-                Ok(()) => (Side { run, lease: None }, Ok(Reply::Accepted), stray),
-                Err((cause, own)) => {
-                    let lease = Some(own);
-                    (Side { run, lease }, Err(cause), stray)
+        match hand {
+            Hand::Own => match self.lease.take() {
+                Some(own) => match self.run.end(own, end) {
+                    Ok(()) => (Ok(Reply::Accepted), stray),
+                    Err((cause, own)) => {
+                        let None = self.lease.replace(own) else {
+                            unreachable()
+                        };
+                        (Err(cause), stray)
+                    }
+                },
+                None => {
+                    let (cause, stray) = hand_in_stray(&mut self.run, stray, end);
+                    (Err(cause), stray)
                 }
             },
-            (Hand::Own, None) => {
-                let (cause, stray) = hand_in_stray(&mut run, stray, end);
-                (Side { run, lease: None }, Err(cause), stray)
-            }
-            (Hand::Stray, lease) => {
-                let (cause, stray) = hand_in_stray(&mut run, stray, end);
-                (Side { run, lease }, Err(cause), stray)
+            Hand::Stray => {
+                let (cause, stray) = hand_in_stray(&mut self.run, stray, end);
+                (Err(cause), stray)
             }
         }
     }
 
     // Makes a call, with a stray lease at hand, which comes back. That its mark is not the run's is asked of the caller, here and in
     // the two functions below it: it is about two values, of which neither owns the other. The type of a pair, which owns both, says it.
-    pub(crate) fn play(mut self, stray: Lease, call: Call) -> (Side<D>, Answer, Lease)
-        requires { stray.mark ≢ mark_of self }
-        ensures plays { Plays D.Discipline self (call_of call.entry) result.1 result.0 }
-        ensures unspent { result.2 ≡ stray }
+    pub(crate) fn play(&mut self, stray: Lease, call: Call) -> (Answer, Lease)
+        requires { stray.mark ≢ mark_of self.old }
+        ensures plays { Plays D.Discipline self.old (call_of call.entry) result.0 self.new }
+        ensures unspent { result.1 ≡ stray }
     {
         match call {
-            Call::Enter { name, size } => {
-                let answer = self.enter(name, size);
-                (self, answer, stray)
-            }
-            Call::Take => {
-                let answer = self.take();
-                (self, answer, stray)
-            }
+            Call::Enter { name, size } => (self.enter(name, size), stray),
+            Call::Take => (self.take(), stray),
             Call::Done(hand) => self.end_tick(stray, End::Done, hand),
             Call::Back(hand) => self.end_tick(stray, End::Back, hand),
-            Call::Pass => {
-                let answer = self.pass();
-                (self, answer, stray)
-            }
+            Call::Pass => (self.pass(), stray),
         }
     }
 

@@ -3,9 +3,12 @@ ghost use Rattle.std.specs.Prelude.{◌≡◌};
 ghost use Rattle.contest.specs.Contested.{Contested};
 
 use crate::calls::{Call, Outcome, Reply, Round};
-use crate::pair::Pair;
+pub use crate::pair::Pair;
+use crate::side::Side;
+use crate::turn::{other_marks, turn};
 use discipline::Discipline;
 use run::Lease;
+use srpt::Srpt;
 
 impl<'a> Round<'a> {
     // A round that is yet to be made: `contest` writes both outcomes over. No `Option`, since whoever reads a round reads a made one.
@@ -30,11 +33,14 @@ impl<'a> Round<'a> {
 pub fn contest<D: Discipline>(rival: D, stray: Lease, rounds: &mut [Round]) -> Pair<D>
     ensures { Contested D.Discipline stray rounds.old rounds.new result }
 {
-    let mut pair = Pair::new(rival, stray);
+    let (first, second) = other_marks(stray.mark());
+    let mut srpt = Side::new(Srpt::new(), first);
+    let mut rival = Side::new(rival, second);
+    let mut stray = stray;
     for round in rounds.iter_mut() {
-        let (next, made) = pair.turn(round.call);
-        pair = next;
+        let (made, back) = turn(&mut srpt, &mut rival, stray, round.call);
+        stray = back;
         *round = made;
     }
-    pair
+    Pair { srpt, rival, stray }
 }

@@ -1,4 +1,7 @@
 // How calls and outcomes are printed.
+ghost use Rattle.std.specs.Prelude.{◌≡◌};
+ghost use Rattle.contest.specs.Told.{job_named, told_of};
+
 use crate::calls::{Call, Hand, Outcome, Reply};
 use show::Answer;
 use std::fmt;
@@ -31,7 +34,9 @@ impl fmt::Display for Call<'_> {
 
 impl Reply {
     // The job that it names, if any.
-    fn job(self) -> Option<u32> {
+    fn job(self) -> Option<u32>
+        ensures { result ≡ job_named self }
+    {
         match self {
             Reply::Entered(number) | Reply::Leased(number) => Some(number),
             Reply::Accepted => None,
@@ -39,12 +44,20 @@ impl Reply {
     }
 }
 
+impl Outcome {
+    // The answer alone, as it is printed.
+    pub fn told(&self) -> Answer
+        ensures { result.told ≡ told_of self.now.answer }
+    {
+        Answer {
+            told: self.answer.map(Reply::job),
+        }
+    }
+}
+
 // The answer, and who was then present.
 impl fmt::Display for Outcome {
     fn fmt<W: fmt::Write>(&self, f: &mut fmt::Formatter<W>) -> fmt::Result {
-        let answer = Answer {
-            told: self.answer.map(Reply::job),
-        };
-        write!(f, "{answer}; present {}", self.present)
+        write!(f, "{}; present {}", self.told(), self.present)
     }
 }

@@ -1,16 +1,16 @@
-// How the two sides of a contest are made, and how both make a call.
-ghost use Rattle.std.specs.Prelude.{◌≡◌, ◌≢◌, [], None};
-ghost use Rattle.contest.specs.Contested.{Fresh, Turns};
+// How both sides of a contest make a call, and which marks they get.
+ghost use Rattle.std.specs.Prelude.{◌≢◌};
+ghost use Rattle.contest.specs.Contested.{Turns};
+ghost use Rattle.contest.specs.Played.{mark_of};
 
 use crate::calls::{Call, Outcome, Round};
-use crate::pair::Pair;
 use crate::side::Side;
 use discipline::Discipline;
 use run::Lease;
 use srpt::Srpt;
 
 // Two marks other than a given one.
-fn other_marks(mark: u16) -> (u16, u16)
+pub(crate) fn other_marks(mark: u16) -> (u16, u16)
     ensures { ((mark ≢ result.0)) × ((mark ≢ result.1)) }
 {
     match mark {
@@ -20,37 +20,29 @@ fn other_marks(mark: u16) -> (u16, u16)
     }
 }
 
-impl<D: Discipline> Pair<D> {
-    // Two runs with no job yet, with marks other than that of the stray lease.
-    pub(crate) fn new(rival: D, stray: Lease) -> Pair<D>
-        ensures { Fresh D.Discipline stray result }
-    {
-        let (first, second) = other_marks(stray.mark());
-        Pair {
-            srpt: Side::new(Srpt::new(), first),
-            rival: Side::new(rival, second),
-            stray,
-        }
-    }
-
-    // Makes the call on the run over SRPT and then on the rival, and counts in each who is present after it.
-    pub(crate) fn turn<'a>(self, call: Call<'a>) -> (Pair<D>, Round<'a>)
-        ensures { Turns D.Discipline self call.entry result.1 result.0 }
-    {
-        let Pair { srpt, rival, stray } = self;
-        let (srpt, first, stray) = srpt.play(stray, call);
-        let (rival, second, stray) = rival.play(stray, call);
-        let round = Round {
-            call,
-            srpt: Outcome {
-                answer: first,
-                present: srpt.run.present(),
-            },
-            rival: Outcome {
-                answer: second,
-                present: rival.run.present(),
-            },
-        };
-        (Pair { srpt, rival, stray }, round)
-    }
+// Makes the call on the run over SRPT and then on the rival, and counts in each who is present after it. The stray lease comes back.
+// The two sides and the lease are the parts of a pair, each on its own: the runs stay where they are, and the lease goes through both.
+pub(crate) fn turn<'a, D: Discipline>(
+    srpt: &mut Side<Srpt>,
+    rival: &mut Side<D>,
+    stray: Lease,
+    call: Call<'a>,
+) -> (Round<'a>, Lease)
+    requires { (stray.mark ≢ mark_of srpt.old) × (stray.mark ≢ mark_of rival.old) }
+    ensures { Turns D.Discipline srpt.old rival.old stray call.entry result.0 srpt.new rival.new result.1 }
+{
+    let (first, stray) = srpt.play(stray, call);
+    let (second, stray) = rival.play(stray, call);
+    let round = Round {
+        call,
+        srpt: Outcome {
+            answer: first,
+            present: srpt.run.present(),
+        },
+        rival: Outcome {
+            answer: second,
+            present: rival.run.present(),
+        },
+    };
+    (round, stray)
 }

@@ -45,7 +45,7 @@ impl Key for NameKey {
 fn name_before(a: &[u8], b: &[u8], m: u32, n: u32) -> bool
     ensures { result ≡ earlier a.now b.now m n }
 {
-    (a, m) < (b, n)
+    a.cmp(b).then(m.cmp(&n)).is_lt()
 }
 
 #[cfg(test)]

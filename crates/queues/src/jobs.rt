@@ -31,6 +31,15 @@ impl Jobs {
         }
     }
 
+    // Nobody is present. In place and not by a new table with a new row: the row keeps its array as it is.
+    pub(crate) fn clear(&mut self)
+        ensures table { self.new.left ≡ replicate 1024 0 }
+        ensures order { self.new.row ≡ [] }
+    {
+        self.left = [0; MAX_JOBS];
+        self.row.clear();
+    }
+
     // A job that is admitted goes to the end of the row.
     pub(crate) fn admit(&mut self, number: u32, size: u32) -> Result<(), Refusal>
         ensures answers { result ≡ admit_answer self.old.left number size }

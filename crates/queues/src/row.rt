@@ -35,6 +35,13 @@ fn place(front: usize, k: usize) -> usize
     if at < MAX_JOBS { at } else { at - MAX_JOBS }
 }
 
+// Where a number first stands in a part of the array, if it does.
+fn first_place(part: &[u32], number: u32) -> Option<usize>
+    ensures { result ≡ position (λ x. x == number) part.now }
+{
+    part.iter().position(|x| *x == number)
+}
+
 impl Row {
     pub(crate) fn new() -> Row
         ensures { result ≡ [] }
@@ -44,6 +51,14 @@ impl Row {
             front: 0,
             len: 0,
         }
+    }
+
+    // Takes all off; what stands in the array stays there.
+    pub(crate) fn clear(&mut self)
+        ensures { self.new ≡ [] }
+    {
+        self.front = 0;
+        self.len = 0;
     }
 
     pub(crate) fn len(&self) -> usize
@@ -122,21 +137,36 @@ impl Row {
         }
     }
 
-    // Where a number first stands, if it does.
+    // Where a number first stands, if it does: the part up to the end of the array is gone through first, then that from its beginning.
     fn find(&self, number: u32) -> Option<usize>
         ensures { result ≡ position (λ x. x == number) self.now }
     {
         let (behind, ahead) = self.items.split_at(self.front);
-        ahead
-            .iter()
-            .chain(behind)
-            .take(self.len)
-            .position(|x| *x == number)
+        let straight = self.len.min(ahead.len());
+        if let Some(at) = first_place(&ahead[..straight], number) {
+            return Some(at);
+        }
+        let at = first_place(&behind[..self.len - straight], number)?;
+        Some(straight + at)
     }
 
-    // Takes the number at a place out; those behind it move up by one. Their places go round the end of the array, so
-    // they are no one part of it to rotate.
+    // Takes the number at a place out; those behind it move up by one.
     fn close(&mut self, at: usize)
+        requires { at < length self.old }
+        ensures { self.new ≡ gapless self.old at }
+    {
+        let end = self.front + self.len;
+        if end > MAX_JOBS {
+            self.close_round(at);
+            return;
+        }
+        let start = self.front + at;
+        self.items[start..end].rotate_left(1);
+        self.len -= 1;
+    }
+
+    // The same where the places go round the end of the array, so that they are no one part of it to rotate.
+    fn close_round(&mut self, at: usize)
         requires { at < length self.old }
         ensures { self.new ≡ gapless self.old at }
     {
@@ -163,7 +193,9 @@ impl Row {
         }
     }
 
-    // Takes out a number wherever it first stands, if it does. O(n).
+    // Takes out a number wherever it first stands, if it does. O(n). Kept out of line, so that a unit of work on a job that stays, and one
+    // that finishes the front or the end, is short code.
+    #[inline(never)]
     fn remove_within(&mut self, number: u32)
         ensures { self.new ≡ without number self.old }
     {

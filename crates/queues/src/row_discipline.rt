@@ -52,9 +52,9 @@ impl<S: Service> Discipline for RowDiscipline<S> {
 
     ghost sound = { λ d. record { long = d.jobs.long; fits = d.jobs.fits; chosen = rule_chosen (S.rule d.service) d.jobs.row d.jobs.left d.jobs.once } };
 
-    // Lets everybody go. Never refused. O(1,024): the table of left work and the row are written over.
+    // Lets everybody go. Never refused. O(1,024): the table of left work is written over, in place.
     fn clear(&mut self) {
-        self.jobs = Jobs::new();
+        self.jobs.clear();
         self.service.clear();
     }
 

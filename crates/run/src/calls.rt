@@ -5,6 +5,7 @@ ghost use Rattle.run.specs.declared.accounts.Call.TheVariants.{HandIn};
 ghost use Rattle.run.specs.States.{Tied};
 ghost use Rattle.run.specs.Steps.{Enters, Takes, Dones, Backs, Passes, done_rule, made_with};
 ghost use Rattle.run.specs.Histories.{Step, handed_in};
+ghost use Rattle.run.specs.Courses.{Conducts};
 ghost use Rattle.run.specs.Laws.{AlwaysLawful};
 ghost use Rattle.run.specs.Runs.{meaning, discipline_of, Untouched, UntouchedIfRefused, Moves};
 
@@ -137,6 +138,7 @@ impl<D: Discipline> Run<D> {
     pub fn end(&mut self, lease: Lease, end: End) -> Result<(), (Refusal, Lease)>
         ensures does { Step (handed_in end lease result) (meaning D.Discipline self.old) (meaning D.Discipline self.new) }
         ensures answers { result ≡ done_rule (meaning D.Discipline self.old) lease }
+        ensures conducts { Conducts D.Discipline (handed_in end lease result) self.old self.new }
         ensures unspent { IfErr result (λ refused. refused.1 ≡ lease) }
         ensures time { OnOk result ((meaning D.Discipline self.new).accounts.clock ≡ (meaning D.Discipline self.old).accounts.clock + 1) }
     {

@@ -69,17 +69,18 @@ impl LineTokens<'_> {
 }
 
 // The tick, the size and the name of a job line, from what lies behind its keyword and space.
-// The fields are read with `let .. else` and no `?`, since the rules of the project name this form.
+// The fields are read with `let .. else` and no `?`, since the rules of the project name this form. Each is read before the next is
+// cut off: a line that is refused for its first field is searched no further.
 fn job_fields<'a>(rest: Span<'a>) -> Option<(PlacedToken<'a>, PlacedToken<'a>, PlacedToken<'a>)>
     ensures { MatchOption result ((t s : ℕ) (n : List ℕ) → Formed (job t s n) → rest.entry.bytes.now ≢ fields t s n) (λ x. ReadsFields rest.entry.bytes.now rest.entry.place x.0 x.1 x.2) }
 {
     let Some((tick, rest)) = rest.cut(b' ') else {
         return None;
     };
-    let Some((size, name)) = rest.cut(b' ') else {
+    let Some(tick) = tick.number() else {
         return None;
     };
-    let Some(tick) = tick.number() else {
+    let Some((size, name)) = rest.cut(b' ') else {
         return None;
     };
     let Some(size) = size.number() else {

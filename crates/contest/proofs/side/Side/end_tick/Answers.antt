@@ -1,29 +1,32 @@
 use Rattle.std.proofs.Common.{Some, sym, refl, ap, ◌∙◌}
-use Rattle.contest.proofs.Playing.{handed_own, handed_none, handed_stray, plays_accepted, plays_refused}
+use Rattle.contest.proofs.Playing.{handed_own, handed_none, handed_stray, plays_accepted, plays_refused, kept_refused, carried_again}
 use Rattle.contest.proofs.side.Side.end_tick.Goals as goal
+
+pub invariant_of-self-in-Err : goal.invariant_of-self-in-Err
+invariant_of-self-in-Err g c =
+    let x = c.args.self.now in
+    let had = c.replace.ensures.after ∙ ap Some c.in-Err.ensures.unspent ∙ sym c.in-Some.is ∙ c.take.ensures.value in
+    record { carried = carried_again g.D.Discipline x c.end.new.self c.replace.new.self (kept_refused c.args.end _ _ _ _ _ c.in-Err.ensures.does) had }
 
 pub returns-in-Ok-clause-plays : goal.returns-in-Ok-clause-plays
 returns-in-Ok-clause-plays g c =
     let a = c.args in
-    let way = c.in-Own-Some in
-    plays_accepted g.D.Discipline a.self _ way.own a.end a.hand tt (handed_own _ a.hand a.self.lease way.own way.is-0 way.is-1) c.in-Ok.ensures.does refl
+    let x = a.self.now in
+    let own = c.in-Some.own in
+    plays_accepted g.D.Discipline x _ own a.end a.hand tt (handed_own _ a.hand x.lease own c.in-Own.is (sym c.take.ensures.value ∙ c.in-Some.is)) c.in-Ok.ensures.does c.take.ensures.after
 
-pub returns-in-Err-clause-plays : goal.returns-in-Err-clause-plays
-returns-in-Err-clause-plays g c =
+pub returns-in-None-clause-plays : goal.returns-in-None-clause-plays
+returns-in-None-clause-plays g c =
     let a = c.args in
-    let way = c.in-Own-Some in
-    plays_refused g.D.Discipline a.self _ way.own a.end a.hand c.in-Err.cause c.in-Err.own (handed_own _ a.hand a.self.lease way.own way.is-0 way.is-1)
-    c.in-Err.ensures.does (ap Some c.in-Err.ensures.unspent ∙ sym way.is-1)
-
-pub returns-in-Own-None-clause-plays : goal.returns-in-Own-None-clause-plays
-returns-in-Own-None-clause-plays g c =
-    let a = c.args in
-    let way = c.in-Own-None in
+    let x = a.self.now in
     let r = c.hand_in_stray-cause in
-    plays_refused g.D.Discipline a.self _ a.stray a.end a.hand r.result.0 r.result.1 (handed_none _ a.hand a.self.lease a.stray c.requires way.is-0 way.is-1) r.ensures.does (sym way.is-1)
+    let free = sym c.take.ensures.value ∙ c.in-None.is in
+    plays_refused g.D.Discipline x _ a.stray a.end a.hand r.result.0 r.result.1 (handed_none _ a.hand x.lease a.stray c.requires c.in-Own.is free) r.ensures.does
+    (c.take.ensures.after ∙ sym free)
 
-pub returns-in-Stray-default-clause-plays : goal.returns-in-Stray-default-clause-plays
-returns-in-Stray-default-clause-plays g c =
+pub returns-in-Stray-clause-plays : goal.returns-in-Stray-clause-plays
+returns-in-Stray-clause-plays g c =
     let a = c.args in
-    let r = c.hand_in_stray-cause-in-Stray-default in
-    plays_refused g.D.Discipline a.self _ a.stray a.end a.hand r.result.0 r.result.1 (handed_stray _ a.hand a.self.lease a.stray c.requires c.in-Stray-default.is-0) r.ensures.does refl
+    let x = a.self.now in
+    let r = c.hand_in_stray-cause-in-Stray in
+    plays_refused g.D.Discipline x _ a.stray a.end a.hand r.result.0 r.result.1 (handed_stray _ a.hand x.lease a.stray c.requires c.in-Stray.is) r.ensures.does refl
