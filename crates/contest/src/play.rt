@@ -89,8 +89,8 @@ impl<D: Discipline> Side<D> {
         }
     }
 
-    // Makes a call, with a stray lease at hand, which comes back. That its mark is not the run's is asked of the caller, here and in
-    // the two functions below it: it is about two values, of which neither owns the other. The type of a pair, which owns both, says it.
+    // Makes a call, with a stray lease at hand, which comes back. That its mark is not the run's is asked of the caller, here, in `turn`
+    // above and in the two functions below: it is about two values, of which neither owns the other. The type of a pair, which owns both, says it.
     pub(crate) fn play(&mut self, stray: Lease, call: Call) -> (Answer, Lease)
         requires { stray.mark ≢ mark_of self.old }
         ensures plays { Plays D.Discipline self.old (call_of call.entry) result.0 self.new }
