@@ -23,13 +23,10 @@ use Rattle.contest.proofs.Keeping.{Kept, step_kept, made_kept}
 use Rattle.order.proofs.Rising.{Lined, lined_enter, lined_done}
 
 module _ {D : Type 0} (d : Ghosts D) (sound : (x : D) → Sound (d.present x) (d.choice x)) (m : ℕ) where
-  -- a course is a chain of steps, and its run is tied
+  -- a course is a chain of steps
   pub reaches : {es : List Event} {r : Run D d} → Course d m es r → Reaches m es (meaning d r)
   reaches (made x r e c) = subst (λ (s : State). Reaches m [] s) (sym e) (H.made (subst (λ (s : State). Sound s.present s.choice) e (sound r.discipline)))
   reaches (called r' x p c) = H.more (reaches x) p (sound r'.discipline)
-
-  pub tied : {es : List Event} {r : Run D d} → Course d m es r → Tied (meaning d r)
-  tied {r = r} x = tied_run d sound r
 
   -- what holds at every point of a course of a discipline whose choice keeps a rule of service
   module _ (R : Rule) (permits : (h : History) (o : Schedule) (e : Entry) → R h o e → Permitted h o e) (rests : (h : History) (o : Schedule) → Nobody h o → R h o idle)

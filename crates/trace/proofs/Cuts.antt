@@ -20,7 +20,7 @@ at_separator b s i l e = sym (take-append-drop i s) ∙ ap (λ t. take i s ++ t)
 pub first_cut : (b : ℕ) (s : List ℕ) (i : ℕ) → i < length s → get_or s i 0 ≡ b → ((k : ℕ) → k < i → get_or s k 0 ≡ b → ⊥) → Lacks b (take i s) × (s ≡ take i s ++ b ∷ take (length s - (i + 1)) (drop (i + 1) s))
 first_cut b s i l e before = (
   lacks_at_all b (take i s) (λ k lt h. let below : k < i = omega (arith, lt, length-take-le i s (omega arith)) in before k below (sym (get_or-take i s k 0 below) ∙ h)),
-  sym (take-append-drop i s) ∙ ap (λ t. take i s ++ t) (drop_more s i 0 l ∙ (λ j. e j ∷ sym (take_rest s (i + 1)) j)),
+  at_separator b s i l e ∙ ap (λ t. take i s ++ b ∷ t) (sym (take_rest s (i + 1))),
 )
 
 -- Two cuts whose fronts lack the separator are the same.
