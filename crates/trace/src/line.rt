@@ -1,4 +1,6 @@
 // Lines: the tokens of a line, and the call that reads the line at a place.
+// The functions that hand the tokens up, that call too, are inlined into whoever reads a line, and so is the `next` of `Lines`: four
+// tokens are a large value, most readers look at one or two of them, and what nobody looks at is then written nowhere.
 ghost use Rattle.std.specs.Prelude.{◌≡◌, ℕ, List, Some, None, MatchOption, MatchResult, ◌≢◌};
 ghost use Rattle.trace.specs.Lines.{Line, job, Formed, fields, spelled, Stands, OneLine, ByDigits};
 ghost use Rattle.trace.specs.Rules.{tick as line_tick, is_job, fault};
@@ -71,6 +73,7 @@ impl LineTokens<'_> {
 // The tick, the size and the name of a job line, from what lies behind its keyword and space.
 // The fields are read with `let .. else` and no `?`, since the rules of the project name this form. Each is read before the next is
 // cut off: a line that is refused for its first field is searched no further.
+#[inline(always)]
 fn job_fields<'a>(rest: Span<'a>) -> Option<(PlacedToken<'a>, PlacedToken<'a>, PlacedToken<'a>)>
     ensures { MatchOption result ((t s : ℕ) (n : List ℕ) → Formed (job t s n) → rest.entry.bytes.now ≢ fields t s n) (λ x. ReadsFields rest.entry.bytes.now rest.entry.place x.0 x.1 x.2) }
 {
@@ -94,6 +97,7 @@ fn job_fields<'a>(rest: Span<'a>) -> Option<(PlacedToken<'a>, PlacedToken<'a>, P
 
 // The tokens of a line, which is given without its LF.
 // Slice patterns take its first bytes, since the rules of the project name this form.
+#[inline(always)]
 #[tactic(auto, using(crate::proofs::Reading::job_front, crate::proofs::Reading::lost_front))]
 fn tokens<'a>(line: Span<'a>) -> Option<LineTokens<'a>>
     ensures { MatchOption result ((l : Line) → Formed l → line.entry.bytes.now ≢ spelled l) (λ ts. ReadsTokens line.entry.bytes.now line.entry.place ts) }
@@ -133,6 +137,7 @@ fn tokens<'a>(line: Span<'a>) -> Option<LineTokens<'a>>
 
 // The tokens of the line that stands at a place, whatever it says, and the place of the next one. Trace and place come as two, as
 // the public call has them: that nothing stands at the place is one of its answers, and a span would say that something does.
+#[inline(always)]
 fn line_found<'a>(trace: &'a [u8], place: usize) -> Option<(LineTokens<'a>, usize)>
     ensures { MatchOption result ((l : Line) → Stands trace.now place l → ⊥) (λ x. LineFound trace.now place x.0 x.1) }
 {
@@ -142,6 +147,7 @@ fn line_found<'a>(trace: &'a [u8], place: usize) -> Option<(LineTokens<'a>, usiz
 }
 
 // The line that stands at a place, unless it is refused for what it says.
+#[inline(always)]
 fn read_line<'a>(trace: &'a [u8], place: usize) -> Result<(LineTokens<'a>, usize), TraceRefusal>
     ensures { MatchResult result (λ x. LineRead trace.now place x.0 x.1) (λ e. LineRefused trace.now place (reported e)) }
 {
@@ -156,6 +162,7 @@ fn read_line<'a>(trace: &'a [u8], place: usize) -> Result<(LineTokens<'a>, usize
 // Reads the line from the byte at `place` to the next LF: its tokens, and the place of the next line.
 // Refused, with the place given, where no line stands there, then for its size, then for its name.
 // It takes time in the length of the line.
+#[inline(always)]
 pub fn line_at<'a>(trace: &'a [u8], place: usize) -> Result<(LineTokens<'a>, usize), TraceRefusal>
     ensures reads { MatchResult result (λ x. LineRead trace.now place x.0 x.1) (λ e. LineRefused trace.now place (reported e)) }
     ensures digits { ByDigits }
