@@ -1,6 +1,6 @@
 // Lines: the tokens of a line, and the call that reads the line at a place.
 // The functions that hand the tokens up, that call too, are inlined into whoever reads a line, and so is the `next` of `Lines`: four
-// tokens are a large value, most readers look at one or two of them, and what nobody looks at is then written nowhere.
+// tokens are a large value, most readers look at one or two of them, and what nobody looks at need not be written out.
 ghost use Rattle.std.specs.Prelude.{◌≡◌, ℕ, List, Some, None, MatchOption, MatchResult, ◌≢◌};
 ghost use Rattle.trace.specs.Lines.{Line, job, Formed, fields, spelled, Stands, OneLine, ByDigits};
 ghost use Rattle.trace.specs.Rules.{tick as line_tick, is_job, fault};

@@ -36,7 +36,7 @@ impl<'a> Iterator for Lines<'a> {
 
     ghost remaining = { λ s. at_most (length s.trace.now - s.place) };
 
-    // Inlined, as the functions of `line.rt` are that read the line: so no loop over lines writes out the tokens that it does not look at.
+    // Inlined, as the functions of `line.rt` are that read the line: so no loop over lines has to write out the tokens that it does not look at.
     #[inline(always)]
     fn next(&mut self) -> Option<Self::Item> {
         if self.place >= self.trace.len() {
